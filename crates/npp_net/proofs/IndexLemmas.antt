@@ -1,10 +1,8 @@
 -- How the list of toll arcs grows by one arc.
-use Rattle.std.proofs.Common.{◌≡◌, ℕ, ◌+◌, ◌<◌, ◌≤◌, true, false, List, [], ◌∷◌, ◌++◌, length, get_or, take, refl, sym, ◌∙◌, ap, arith}
-use Rattle.std.proofs.lemmas.Grind.{common_steps}
+use Rattle.std.proofs.Common.{◌≡◌, ℕ, ◌<◌, ◌≤◌, true, List, length, get_or, take}
 use Rattle.npp_net.specs.declared.types.ArcId.{ArcId}
 use Rattle.npp_net.specs.declared.types.NetArc.{NetArc}
-use Rattle.npp_net.specs.Network.{arc_at, toll_count, toll_number, no_arc}
-use Rattle.npp_net.specs.Index.{ListsTolls}
+use Rattle.npp_net.specs.Network.{arc_at, toll_count, toll_number}
 
 -- the toll arcs below i
 pub record ListsTollsBelow (arcs : List NetArc) (i : ℕ) (found : List ArcId) : Type 0 where

@@ -1,11 +1,10 @@
 -- Where nothing is refused, the limits hold.
-use Rattle.std.proofs.Common.{◌≡◌, ◌≢◌, ℕ, ◌<◌, ◌≤◌, Option, Some, None, true, false, List, [], ◌∷◌, length, refl, sym, ◌∙◌, ap, arith, All}
-use Rattle.std.proofs.lemmas.Grind.{common_steps}
+use Rattle.std.proofs.Common.{◌≡◌, ℕ, ◌<◌, Option, Some, None, List, [], ◌∷◌, length, refl, arith, All}
 use Rattle.std.proofs.lemmas.Bool.Decides.{nat_tests}
-use Rattle.std.proofs.lemmas.List.Elements.{All-from_recursion, All-nil, All-cons}
+use Rattle.std.proofs.lemmas.List.Elements.{All-nil, All-cons}
 use Rattle.npp_net.specs.declared.types.NetArc.{NetArc}
 use Rattle.npp_net.specs.declared.types.Commodity.{Commodity}
-use Rattle.npp_net.specs.Network.{Network, IsNetwork, IsArc, IsCommodity, toll_count}
+use Rattle.npp_net.specs.Network.{Network, IsNetwork, IsArc, IsCommodity}
 use Rattle.npp_net.specs.declared.refusal.NetRefusal.{NetRefusal}
 use Rattle.npp_net.specs.Refusal.{refusal_of_counts, refusal_of_arc, refusal_of_commodity, first_of_list, or_else, refusal_of, refusal_of_none}
 

@@ -7,6 +7,8 @@ mod index;
 mod instance;
 mod limits;
 mod refusal;
+#[cfg(test)]
+mod tests;
 mod types;
 mod walk;
 

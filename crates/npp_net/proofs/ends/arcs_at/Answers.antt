@@ -1,5 +1,3 @@
-use Rattle.std.proofs.Common.{refl, arith}
-use Rattle.npp_net.specs.Network.{no_arc}
 use Rattle.npp_net.proofs.EndLemmas.{arcs_at_more}
 use Rattle.npp_net.proofs.ends.arcs_at.Goals as goal
 

@@ -1,0 +1,108 @@
+//! One instance, read back through every accessor, and the refusals in their order.
+
+use crate::{
+    ArcId, Commodity, Instance, NetArc, NetRefusal, NodeId, TollId, is_walk, walk_cost, walk_tolls,
+};
+use std::alloc::Global;
+use std::test::Fail;
+
+fn arc(tail: u32, head: u32, cost: u32, toll: bool) -> NetArc {
+    NetArc {
+        tail: NodeId(tail),
+        head: NodeId(head),
+        cost,
+        toll,
+    }
+}
+
+fn pair(origin: u32, destination: u32, demand: u32) -> Commodity {
+    Commodity {
+        origin: NodeId(origin),
+        destination: NodeId(destination),
+        demand,
+    }
+}
+
+fn answer(alloc: Global, nodes: u32, x: NetArc, k: Commodity) -> Result<(), NetRefusal> {
+    let arcs = vec![in alloc; x]?;
+    let commodities = vec![in alloc; k]?;
+    let _ = Instance::new(alloc, nodes, arcs, commodities)?;
+    Ok(())
+}
+
+#[test]
+fn an_instance_is_read_back(rt: HostRuntime) -> Result<(), Fail> {
+    let alloc = rt.alloc();
+    let arcs = vec![in alloc;
+        arc(0, 2, 10, false),
+        arc(0, 1, 1, true),
+        arc(1, 2, 1, false),
+        arc(1, 2, 1, true),
+    ]?;
+    let commodities = vec![in alloc; pair(0, 2, 1)]?;
+    let net = Instance::new(alloc, 3, arcs, commodities)?;
+    assert_eq!(rt; net.nodes(), 3);
+    assert_eq!(rt; net.arcs().len(), 4);
+    assert_eq!(rt; net.tolls(), 2);
+    assert_eq!(rt; net.commodities()[0].demand, 1);
+    assert_eq!(rt; net.toll_of(ArcId(2)), None);
+    assert_eq!(rt; net.toll_of(ArcId(3)), Some(TollId(1)));
+    assert_eq!(rt; net.arc_of(TollId(1)), ArcId(3));
+    assert_eq!(rt; net.leaving(NodeId(1)), [ArcId(2), ArcId(3)].as_slice());
+    assert_eq!(rt;
+        net.entering(NodeId(2)),
+        [ArcId(0), ArcId(2), ArcId(3)].as_slice()
+    );
+    Ok(())
+}
+
+#[test]
+fn walks_are_measured(rt: HostRuntime) -> Result<(), Fail> {
+    let alloc = rt.alloc();
+    let arcs = vec![in alloc; arc(0, 1, 3, true), arc(1, 0, 4, false)]?;
+    let commodities = vec![in alloc; pair(0, 1, 1)]?;
+    let net = Instance::new(alloc, 2, arcs, commodities)?;
+    let walk = [ArcId(0), ArcId(1), ArcId(0)];
+    assert!(rt; is_walk(&net, NodeId(0), NodeId(1), &walk));
+    assert!(rt; !is_walk(&net, NodeId(0), NodeId(0), &walk));
+    assert!(rt; is_walk(&net, NodeId(1), NodeId(1), &[]));
+    assert_eq!(rt; walk_cost(&net, &walk), 10);
+    assert_eq!(rt; walk_tolls(&net, &walk, TollId(0)), 2);
+    Ok(())
+}
+
+#[test]
+fn the_first_broken_limit_is_named(rt: HostRuntime) {
+    let alloc = rt.alloc();
+    let arc_here = arc(0, 1, 1, false);
+    let pair_here = pair(0, 1, 1);
+    assert_eq!(rt; answer(alloc, 2, arc_here, pair_here), Ok(()));
+    assert_eq!(rt;
+        answer(alloc, 1001, arc(0, 2000, 1, false), pair_here),
+        Err(NetRefusal::TooManyNodes)
+    );
+    assert_eq!(rt;
+        answer(alloc, 2, arc(0, 2, 1_000_001, false), pair_here),
+        Err(NetRefusal::UnknownNode)
+    );
+    assert_eq!(rt;
+        answer(alloc, 2, arc(0, 1, 1_000_001, false), pair_here),
+        Err(NetRefusal::NumberTooLarge)
+    );
+    assert_eq!(rt;
+        answer(alloc, 2, arc_here, pair(0, 2, 0)),
+        Err(NetRefusal::UnknownNode)
+    );
+    assert_eq!(rt;
+        answer(alloc, 2, arc_here, pair(0, 0, 1_000_001)),
+        Err(NetRefusal::NumberTooLarge)
+    );
+    assert_eq!(rt;
+        answer(alloc, 2, arc_here, pair(1, 1, 0)),
+        Err(NetRefusal::SameEnds)
+    );
+    assert_eq!(rt;
+        answer(alloc, 2, arc_here, pair(0, 1, 0)),
+        Err(NetRefusal::ZeroDemand)
+    );
+}
