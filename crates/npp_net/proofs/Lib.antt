@@ -1,3 +1,4 @@
 pub mod IndexLemmas
 pub mod EndLemmas
 pub mod LimitLemmas
+pub mod TollSetLemmas

@@ -6,3 +6,4 @@ pub mod Outcome
 pub mod Ends
 pub mod Refusal
 pub mod Index
+pub mod TollSets

@@ -9,10 +9,12 @@ mod limits;
 mod refusal;
 #[cfg(test)]
 mod tests;
+mod toll_set;
 mod types;
 mod walk;
 
 pub use instance::Instance;
 pub use refusal::NetRefusal;
-pub use types::{ArcId, Commodity, Memory, NetArc, NodeId, Span, TollId, Walk};
+pub use toll_set::TollSet;
+pub use types::{ArcId, Commodity, Memory, NetArc, NodeId, Span, TollId, Tolls, Walk};
 pub use walk::{is_walk, walk_cost, walk_tolls};

@@ -1,7 +1,8 @@
 //! One instance, read back through every accessor, and the refusals in their order.
 
 use crate::{
-    ArcId, Commodity, Instance, NetArc, NetRefusal, NodeId, TollId, is_walk, walk_cost, walk_tolls,
+    ArcId, Commodity, Instance, NetArc, NetRefusal, NodeId, TollId, TollSet, is_walk, walk_cost,
+    walk_tolls,
 };
 use std::alloc::Global;
 use std::test::Fail;
@@ -105,4 +106,14 @@ fn the_first_broken_limit_is_named(rt: HostRuntime) {
         answer(alloc, 2, arc_here, pair(0, 1, 0)),
         Err(NetRefusal::ZeroDemand)
     );
+}
+
+#[test]
+fn toll_sets(rt: HostRuntime) {
+    let small = TollSet::empty().with(TollId(3));
+    let large = small.with(TollId(63)).with(TollId(3));
+    assert_eq!(rt; small.number(), 8);
+    assert_eq!(rt; large.size(), 2);
+    assert!(rt; large.has(TollId(63)) && !large.has(TollId(0)));
+    assert!(rt; small.is_within(large) && !large.is_within(small));
 }

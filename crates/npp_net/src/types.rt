@@ -69,3 +69,10 @@ pub struct Walk {
     /// The arcs in the order of travel.
     pub arcs: Vec<ArcId>,
 }
+
+/// A toll for each toll arc, in the order of their toll numbers.
+#[derive(Debug, PartialEq, Eq, Drop)]
+pub struct Tolls<N> {
+    /// The tolls, none of them negative where they are asked of travellers.
+    pub values: Vec<N>,
+}
