@@ -1,0 +1,6 @@
+-- When a count of faults or of misses was counted up.
+use Rattle.std.specs.Prelude.{ℕ, ◌+◌, ◌-◌, ◌^◌, ◌≤◌, min}
+
+-- the count is greater than before, or stands at 2 ^ 64 - 1, the last value of a counter
+abbrev pub Rose : ℕ → ℕ → Type 0
+Rose before now = min (before + 1) (2 ^ 64 - 1) ≤ now
