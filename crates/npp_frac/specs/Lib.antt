@@ -1,0 +1,14 @@
+pub mod Gcd
+pub mod Rational
+pub mod Ring
+pub mod Order
+pub mod Division
+pub mod Floor
+pub mod Sums
+pub mod Reduction
+pub mod Fits
+pub mod FitsLaws
+pub mod Value
+pub mod ValueLaws
+pub mod Wide
+pub mod WideLaws

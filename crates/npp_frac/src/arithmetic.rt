@@ -1,0 +1,150 @@
+// Operations on pairs, below a limit.
+
+ghost use Rattle.std.specs.Prelude.{◌≡◌, ◌≢◌, ◌<◌, ◌≤◌, ◌^◌, ◌↔◌, nat_abs, is_some, IsSome, IfSome};
+ghost use Rattle.npp_frac.specs.Rational.{ratio, whole, zero_ℚ, negative as negative_of, reciprocal, ◌+ℚ◌, ◌-ℚ◌, ◌*ℚ◌, ◌/ℚ◌};
+ghost use Rattle.npp_frac.specs.Fits.{FitsBelow, FitsAdd, FitsMul, fits_add, fits_sub, fits_mul, fits_div};
+ghost use Rattle.npp_frac.specs.Floor.{IsGreatestWhole, floor as floor_of};
+ghost use Rattle.npp_frac.specs.Value.{value_of};
+
+use crate::gcd::gcd;
+use crate::numbers::{
+    negative, quotient, quotient_down, scaled, signed_product, signed_sum, size, unsigned_product,
+    with_sign,
+};
+use crate::reduced::Reduced;
+
+/// The reduced pair of a numerator and a denominator.
+pub fn reduced(num: i128, den: u128) -> Reduced
+    requires positive { 0 < den }
+    requires num { nat_abs num < 2 ^ 127 }
+    requires den { den < 2 ^ 127 }
+    ensures exact { value_of result ≡ ratio num den }
+    ensures num { nat_abs result.num ≤ nat_abs num }
+    ensures den { result.den ≤ den }
+{
+    let g = gcd(size(num), den);
+    Reduced {
+        num: quotient(num, g),
+        den: den / g,
+    }
+}
+
+/// The sum, where its numbers are below the limit.
+pub fn sum(a: Reduced, b: Reduced, limit: u128) -> Option<Reduced>
+    requires { limit ≤ 2 ^ 127 }
+    ensures fits { IsSome result ↔ FitsAdd limit (value_of a) (value_of b) }
+    ensures exact { IfSome result (λ r. value_of r ≡ value_of a +ℚ value_of b) }
+    ensures below { IfSome result (λ r. FitsBelow limit (value_of r)) }
+{
+    let g = gcd(a.den, b.den);
+    let a_den = a.den / g;
+    let b_den = b.den / g;
+    let left = scaled(a.num, b_den, limit)?;
+    let right = scaled(b.num, a_den, limit)?;
+    let total = signed_sum(left, right, limit)?;
+    let den = unsigned_product(a_den, b.den, limit)?;
+    Some(reduced(total, den))
+}
+
+/// The product, where its numbers are below the limit.
+pub fn product(a: Reduced, b: Reduced, limit: u128) -> Option<Reduced>
+    requires { limit ≤ 2 ^ 127 }
+    ensures fits { IsSome result ↔ FitsMul limit (value_of a) (value_of b) }
+    ensures exact { IfSome result (λ r. value_of r ≡ value_of a *ℚ value_of b) }
+    ensures below { IfSome result (λ r. FitsBelow limit (value_of r)) }
+{
+    let first = gcd(size(a.num), b.den);
+    let second = gcd(size(b.num), a.den);
+    let left = quotient(a.num, first);
+    let right = quotient(b.num, second);
+    let num = signed_product(left, right, limit)?;
+    let den = unsigned_product(a.den / second, b.den / first, limit)?;
+    Some(Reduced { num, den })
+}
+
+/// The pair of a whole number.
+pub fn of_whole(value: i64) -> Reduced
+    ensures exact { value_of result ≡ whole value }
+    ensures num { result.num ≡ value }
+    ensures den { result.den ≡ 1 }
+{
+    Reduced {
+        num: i128::from(value),
+        den: 1,
+    }
+}
+
+/// The negative.
+pub fn negated(a: Reduced) -> Reduced
+    ensures { value_of result ≡ negative_of (value_of a) }
+{
+    Reduced {
+        num: negative(a.num),
+        den: a.den,
+    }
+}
+
+/// The reciprocal of a value that is not zero.
+pub fn inverse(a: Reduced) -> Reduced
+    requires { value_of a ≢ zero_ℚ }
+    ensures { value_of result ≡ reciprocal (value_of a) }
+{
+    Reduced {
+        num: with_sign(a.den, a.num),
+        den: size(a.num),
+    }
+}
+
+/// The greatest whole number that is not above the value.
+pub fn floor(a: Reduced) -> Reduced
+    ensures exact { value_of result ≡ whole (floor_of (value_of a)) }
+    ensures greatest { IsGreatestWhole (floor_of (value_of a)) (value_of a) }
+    ensures num { nat_abs result.num ≤ nat_abs a.num }
+    ensures den { result.den ≡ 1 }
+{
+    Reduced {
+        num: quotient_down(a.num, a.den),
+        den: 1,
+    }
+}
+
+/// The sum, by the rule as a test.
+pub fn add(a: Reduced, b: Reduced, limit: u128) -> Option<Reduced>
+    requires { limit ≤ 2 ^ 127 }
+    ensures fits { is_some result ≡ fits_add limit (value_of a) (value_of b) }
+    ensures exact { IfSome result (λ r. value_of r ≡ value_of a +ℚ value_of b) }
+    ensures below { IfSome result (λ r. FitsBelow limit (value_of r)) }
+{
+    sum(a, b, limit)
+}
+
+/// The difference.
+pub fn sub(a: Reduced, b: Reduced, limit: u128) -> Option<Reduced>
+    requires { limit ≤ 2 ^ 127 }
+    ensures fits { is_some result ≡ fits_sub limit (value_of a) (value_of b) }
+    ensures exact { IfSome result (λ r. value_of r ≡ value_of a -ℚ value_of b) }
+    ensures below { IfSome result (λ r. FitsBelow limit (value_of r)) }
+{
+    add(a, negated(b), limit)
+}
+
+/// The product, by the rule as a test.
+pub fn mul(a: Reduced, b: Reduced, limit: u128) -> Option<Reduced>
+    requires { limit ≤ 2 ^ 127 }
+    ensures fits { is_some result ≡ fits_mul limit (value_of a) (value_of b) }
+    ensures exact { IfSome result (λ r. value_of r ≡ value_of a *ℚ value_of b) }
+    ensures below { IfSome result (λ r. FitsBelow limit (value_of r)) }
+{
+    product(a, b, limit)
+}
+
+/// The quotient.
+pub fn div(a: Reduced, b: Reduced, limit: u128) -> Option<Reduced>
+    requires limit { limit ≤ 2 ^ 127 }
+    requires divisor { value_of b ≢ zero_ℚ }
+    ensures fits { is_some result ≡ fits_div limit (value_of a) (value_of b) }
+    ensures exact { IfSome result (λ r. value_of r ≡ value_of a /ℚ value_of b) }
+    ensures below { IfSome result (λ r. FitsBelow limit (value_of r)) }
+{
+    mul(a, inverse(b), limit)
+}

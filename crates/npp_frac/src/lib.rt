@@ -1,0 +1,19 @@
+//! Exact fractions of three widths.
+//!
+//! Every operation of the trait `Exact` answers the exact value, or refuses by one stated rule
+//! where a number that it needs does not fit the width.
+#![tactic(auto)]
+
+mod arithmetic;
+mod comparison;
+mod exact;
+mod frac128;
+mod frac128_exact;
+mod gcd;
+mod numbers;
+mod reduced;
+mod refusal;
+
+pub use exact::Exact;
+pub use frac128::Frac128;
+pub use refusal::{Memory, Op, Overflow};

@@ -1,0 +1,102 @@
+// Whole numbers below a limit in size.
+
+ghost use Rattle.std.specs.Prelude.{◌≡◌, ◌<◌, ◌≤◌, ◌^◌, ◌*◌, ◌/◌, pos, ◌+ℤ◌, ◌*ℤ◌, neg_ℤ, int_div, int_lt, cond, nat_abs, IfSome, SomeIff};
+ghost use Rattle.std.specs.Int.{int_div_euclid};
+
+/// The size of a number.
+pub fn size(a: i128) -> u128
+    ensures { result ≡ nat_abs a }
+{
+    a.unsigned_abs()
+}
+
+/// The number with the other sign.
+pub fn negative(a: i128) -> i128
+    requires { nat_abs a < 2 ^ 127 }
+    ensures exact { result ≡ neg_ℤ a }
+    ensures size { nat_abs result ≡ nat_abs a }
+{
+    -a
+}
+
+/// The number of a size, with the sign of another number.
+pub fn with_sign(size: u128, sign: i128) -> i128
+    requires { size < 2 ^ 127 }
+    ensures exact { result ≡ cond (int_lt sign (pos 0)) (neg_ℤ (pos size)) (pos size) }
+    ensures size { nat_abs result ≡ size }
+{
+    let positive = size as i128;
+    if sign < 0 { -positive } else { positive }
+}
+
+/// The quotient by a positive number, rounded toward zero.
+pub fn quotient(a: i128, by: u128) -> i128
+    requires positive { 0 < by }
+    requires below { by < 2 ^ 127 }
+    requires size { nat_abs a < 2 ^ 127 }
+    ensures exact { result ≡ int_div a (pos by) }
+    ensures size { nat_abs result ≡ nat_abs a / by }
+{
+    a / (by as i128)
+}
+
+/// The quotient by a positive number, rounded down.
+pub fn quotient_down(a: i128, by: u128) -> i128
+    requires positive { 0 < by }
+    requires below { by < 2 ^ 127 }
+    requires size { nat_abs a < 2 ^ 127 }
+    ensures exact { result ≡ int_div_euclid a (pos by) }
+    ensures size { nat_abs result ≤ nat_abs a }
+{
+    a.div_euclid(by as i128)
+}
+
+/// The sum, where its size is below the limit.
+pub fn signed_sum(a: i128, b: i128, limit: u128) -> Option<i128>
+    requires { limit ≤ 2 ^ 127 }
+    ensures { SomeIff result (nat_abs (a +ℤ b) < limit) (a +ℤ b) }
+{
+    let exact = a.checked_add(b)?;
+    if size(exact) < limit {
+        Some(exact)
+    } else {
+        None
+    }
+}
+
+/// The product with a number that is not negative, where its size is below the limit.
+pub fn scaled(a: i128, b: u128, limit: u128) -> Option<i128>
+    requires factor { b < 2 ^ 127 }
+    requires limit { limit ≤ 2 ^ 127 }
+    ensures { SomeIff result (nat_abs (a *ℤ pos b) < limit) (a *ℤ pos b) }
+{
+    let exact = a.checked_mul(b as i128)?;
+    if size(exact) < limit {
+        Some(exact)
+    } else {
+        None
+    }
+}
+
+/// The product, where its size is below the limit.
+pub fn signed_product(a: i128, b: i128, limit: u128) -> Option<i128>
+    requires { limit ≤ 2 ^ 127 }
+    ensures { SomeIff result (nat_abs (a *ℤ b) < limit) (a *ℤ b) }
+{
+    let exact = a.checked_mul(b)?;
+    if size(exact) < limit {
+        Some(exact)
+    } else {
+        None
+    }
+}
+
+/// The product of two positive numbers, where it is below the limit.
+pub fn unsigned_product(a: u128, b: u128, limit: u128) -> Option<u128>
+    requires positive { (0 < a) × (0 < b) }
+    ensures product { SomeIff result (a * b < limit) (a * b) }
+    ensures positive { IfSome result (λ p. 0 < p) }
+{
+    let exact = a.checked_mul(b)?;
+    if exact < limit { Some(exact) } else { None }
+}

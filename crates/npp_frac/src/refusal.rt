@@ -1,0 +1,25 @@
+// What a call answers in place of a value.
+
+/// There was not enough memory.
+#[derive(Clone, Copy, PartialEq, Eq, Debug)]
+pub struct Memory;
+
+/// The operations on fractions that can refuse.
+#[derive(Clone, Copy, PartialEq, Eq, Debug)]
+pub enum Op {
+    Add,
+    Sub,
+    Mul,
+    Div,
+}
+
+/// An operation whose numbers do not fit the width, with its operands as they were given.
+#[derive(Clone, Copy, Debug)]
+pub struct Overflow<N> {
+    /// The operation.
+    pub op: Op,
+    /// The first operand: the minuend of a difference, the dividend of a quotient.
+    pub left: N,
+    /// The second operand.
+    pub right: N,
+}
