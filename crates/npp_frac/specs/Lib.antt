@@ -12,3 +12,5 @@ pub mod Value
 pub mod ValueLaws
 pub mod Wide
 pub mod WideLaws
+pub mod Narrow
+pub mod NarrowLaws

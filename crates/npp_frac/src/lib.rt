@@ -9,11 +9,17 @@ mod comparison;
 mod exact;
 mod frac128;
 mod frac128_exact;
+mod frac32;
+mod frac32_exact;
+mod frac64;
+mod frac64_exact;
 mod gcd;
 mod numbers;
 mod reduced;
 mod refusal;
 
 pub use exact::Exact;
+pub use frac32::Frac32;
+pub use frac64::Frac64;
 pub use frac128::Frac128;
 pub use refusal::{Memory, Op, Overflow};

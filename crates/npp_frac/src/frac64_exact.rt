@@ -1,0 +1,110 @@
+// Fractions of 64 bits are exact.
+
+ghost use Rattle.npp_frac.specs.Narrow.{value_of_64};
+ghost use Rattle.npp_frac.specs.NarrowLaws.{width_64, fits_64, same_64};
+
+use crate::arithmetic;
+use crate::comparison::compare;
+use crate::exact::Exact;
+use crate::frac64::Frac64;
+use crate::frac128::Frac128;
+use crate::refusal::{Op, Overflow};
+use std::cmp::Ordering;
+
+const LIMIT: u128 = 1 << 63;
+
+impl Exact for Frac64 {
+    ghost WIDTH = { 64 };
+
+    ghost rational = { value_of_64 };
+
+    ghost width = { width_64 };
+
+    ghost fits = { fits_64 };
+
+    ghost same = { same_64 };
+
+    const WIDTH: u32 = 64;
+
+    #[tactic(auto, unfolding(crate::specs::Narrow::value_of_64))]
+    fn of_whole(value: i64) -> Frac64 {
+        Frac64 {
+            pair: arithmetic::of_whole(value),
+        }
+    }
+
+    #[tactic(auto, unfolding(crate::specs::Narrow::value_of_64))]
+    fn add(self, other: Frac64) -> Result<Frac64, Overflow<Frac64>> {
+        match arithmetic::add(self.pair, other.pair, LIMIT) {
+            Some(pair) => Ok(Frac64 { pair }),
+            None => Err(Overflow {
+                op: Op::Add,
+                left: self,
+                right: other,
+            }),
+        }
+    }
+
+    #[tactic(auto, unfolding(crate::specs::Narrow::value_of_64))]
+    fn sub(self, other: Frac64) -> Result<Frac64, Overflow<Frac64>> {
+        match arithmetic::sub(self.pair, other.pair, LIMIT) {
+            Some(pair) => Ok(Frac64 { pair }),
+            None => Err(Overflow {
+                op: Op::Sub,
+                left: self,
+                right: other,
+            }),
+        }
+    }
+
+    #[tactic(auto, unfolding(crate::specs::Narrow::value_of_64))]
+    fn mul(self, other: Frac64) -> Result<Frac64, Overflow<Frac64>> {
+        match arithmetic::mul(self.pair, other.pair, LIMIT) {
+            Some(pair) => Ok(Frac64 { pair }),
+            None => Err(Overflow {
+                op: Op::Mul,
+                left: self,
+                right: other,
+            }),
+        }
+    }
+
+    #[tactic(auto, unfolding(crate::specs::Narrow::value_of_64))]
+    fn div(self, other: Frac64) -> Result<Frac64, Overflow<Frac64>> {
+        match arithmetic::div(self.pair, other.pair, LIMIT) {
+            Some(pair) => Ok(Frac64 { pair }),
+            None => Err(Overflow {
+                op: Op::Div,
+                left: self,
+                right: other,
+            }),
+        }
+    }
+
+    #[tactic(auto, unfolding(crate::specs::Narrow::value_of_64))]
+    fn cmp(self, other: Frac64) -> Ordering {
+        compare(self.pair, other.pair)
+    }
+
+    #[tactic(auto, unfolding(crate::specs::Narrow::value_of_64))]
+    fn num(self) -> i128 {
+        self.pair.num
+    }
+
+    #[tactic(auto, unfolding(crate::specs::Narrow::value_of_64))]
+    fn den(self) -> i128 {
+        self.pair.den as i128
+    }
+
+    #[tactic(auto, unfolding(crate::specs::Narrow::value_of_64))]
+    fn floor(self) -> Frac64 {
+        Frac64 {
+            pair: arithmetic::floor(self.pair),
+        }
+    }
+
+    #[tactic(auto, unfolding(crate::specs::Narrow::value_of_64, crate::specs::Wide::value_of_wide))]
+    fn widen(self) -> Frac128 {
+        Frac128 { pair: self.pair }
+    }
+}
