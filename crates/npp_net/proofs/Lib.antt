@@ -2,3 +2,4 @@ pub mod IndexLemmas
 pub mod EndLemmas
 pub mod LimitLemmas
 pub mod TollSetLemmas
+pub mod EndLaws

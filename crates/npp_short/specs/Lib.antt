@@ -1,0 +1,5 @@
+pub mod Reach
+pub mod Potentials
+pub mod Shortest
+pub mod Settling
+pub mod Following
