@@ -1,0 +1,4 @@
+pub mod SpanLemmas
+pub mod Bounded
+pub mod ZeroCheapest
+pub mod Progress
