@@ -14,3 +14,4 @@ pub mod Wide
 pub mod WideLaws
 pub mod Narrow
 pub mod NarrowLaws
+pub mod FractionText

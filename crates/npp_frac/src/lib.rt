@@ -17,9 +17,11 @@ mod gcd;
 mod numbers;
 mod reduced;
 mod refusal;
+mod text;
 
 pub use exact::Exact;
 pub use frac32::Frac32;
 pub use frac64::Frac64;
 pub use frac128::Frac128;
 pub use refusal::{Memory, Op, Overflow};
+pub use text::{parse_fraction, print_fraction};

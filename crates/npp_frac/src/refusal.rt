@@ -1,8 +1,16 @@
 // What a call answers in place of a value.
 
+use std::alloc::AllocError;
+
 /// There was not enough memory.
 #[derive(Clone, Copy, PartialEq, Eq, Debug)]
 pub struct Memory;
+
+impl From<AllocError> for Memory {
+    fn from(_error: AllocError) -> Memory {
+        Memory
+    }
+}
 
 /// The operations on fractions that can refuse.
 #[derive(Clone, Copy, PartialEq, Eq, Debug)]
