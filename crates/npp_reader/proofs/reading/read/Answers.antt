@@ -1,0 +1,34 @@
+use Rattle.std.proofs.Common.{inr, ℕ, List, Err, sym, ◌∙◌, ap, arith, subst}
+use Rattle.std.proofs.lemmas.Bool.Decides.{nat_tests}
+use Rattle.npp_reader.specs.Lines.{lines_of}
+use Rattle.npp_reader.specs.Reading.{reading_from}
+use Rattle.npp_reader.specs.Taking.{refusal_at}
+use Rattle.npp_reader.proofs.ReadLemmas.{nothing_within, reading_begins, reading_step, reading_ends, none_left, refused_end, IsAnswer}
+use Rattle.npp_reader.proofs.WithinLemmas.{line_within}
+use Rattle.npp_reader.proofs.reading.read.Goals as goal
+
+pub loop-rest-init : goal.loop-rest-init
+loop-rest-init c = rw c.new-draft.ensures (reading_begins c.args.bytes.now, omega arith, nothing_within)
+
+pub loop-rest-preserved : goal.loop-rest-preserved
+loop-rest-preserved c =
+    let rest = lines_of c.split_line.result.1.now in
+    let step = reading_step c.loop-rest.line c.loop-rest.draft c.split_line.result.0.now rest c.take.new.self c.in_default.ensures.taken in (
+      sym step ∙ (ap (reading_from c.loop-rest.line c.loop-rest.draft) (sym c.split_line.ensures.first) ∙ c.loop-rest.invariant.0),
+      omega (arith, c.loop-rest.invariant.1, c.split_line.ensures.shorter),
+      line_within c.loop-rest.draft c.take.new.self c.loop-rest.invariant.2 c.split_line.result.0.now c.in_default.ensures.taken,
+    )
+
+pub returns-in-Ok : goal.returns-in-Ok
+returns-in-Ok c =
+    let none = none_left c.loop-rest.rest.now (grind (arith, nat_tests)) in
+    inr (sym (reading_ends c.loop-rest.line c.loop-rest.draft c.in-Ok.document c.in-Ok.ensures.document)
+    ∙ (ap (λ (bytes : List ℕ). reading_from c.loop-rest.line c.loop-rest.draft (lines_of bytes)) (sym none) ∙ c.loop-rest.invariant.0))
+
+pub returns-in-Err-finish : goal.returns-in-Err-finish
+returns-in-Err-finish c =
+    let none = none_left c.loop-rest.rest.now (grind (arith, nat_tests)) in
+    let back = ap (λ (bytes : List ℕ). reading_from c.loop-rest.line c.loop-rest.draft (lines_of bytes)) (sym none) ∙ c.loop-rest.invariant.0 in
+    rw c.at-in-Err-finish.ensures
+    (subst (IsAnswer (Err (refusal_at c.loop-rest.line c.in-Err-finish.fault))) back
+    (refused_end c.loop-rest.line c.loop-rest.draft c.in-Err-finish.fault c.in-Err-finish.ensures.fault))

@@ -1,0 +1,212 @@
+//! What the lines above a line declare.
+
+ghost use Rattle.std.specs.Prelude.{◌≡◌, ◌≤◌, ℕ, List, ◌∷◌, length, Ok, Err, OnOk, IfOk, IfErr};
+ghost use Rattle.npp_reader.specs.Lines.{fields_of};
+ghost use Rattle.npp_reader.specs.Grammar.{nothing, after_line, after_fields, after_header, after_node, after_arc, after_pair, after_word};
+ghost use Rattle.npp_reader.specs.Reading.{at_end};
+ghost use Rattle.npp_reader.specs.Taking.{IfKind, IsWithin};
+
+use crate::document::Document;
+use crate::field::name_of;
+use crate::kind::LineKind;
+use crate::line::{is_utf8, next_field, one_field};
+use crate::link::{Link, link_of};
+use crate::names::Names;
+use crate::refusal::Fault;
+use npp_net::{Commodity, Instance, NetArc, NetRefusal};
+use std::alloc::Global;
+use std::marker::Model;
+
+/// The most nodes of an instance.
+const MAX_NODES: usize = 1000;
+
+/// The most arcs of an instance, toll arcs and toll-free arcs together.
+const MAX_ARCS: usize = 5000;
+
+/// The most toll arcs of an instance.
+const MAX_TOLLS: usize = 64;
+
+/// The most commodities of an instance.
+const MAX_COMMODITIES: usize = 100;
+
+/// What the lines so far declare.
+#[derive(Drop)]
+pub(crate) struct Draft {
+    header: bool,
+    names: Names,
+    arcs: Vec<NetArc>,
+    commodities: Vec<Commodity>,
+}
+
+impl Model for Draft {
+    ghost use Rattle.npp_reader.specs.Grammar.{Declared};
+
+    ghost Value = { Declared };
+
+    ghost view = { λ d. record { header = d.header; names = d.names; arcs = d.arcs.items; commodities = d.commodities.items } };
+}
+
+impl Draft {
+    /// Nothing is declared.
+    pub(crate) fn new(alloc: Global) -> Draft
+        ensures { result ≡ nothing }
+    {
+        Draft {
+            header: false,
+            names: Names::empty(alloc),
+            arcs: Vec::new(alloc),
+            commodities: Vec::new(alloc),
+        }
+    }
+
+    /// Takes the next line.
+    pub(crate) fn take(&mut self, alloc: Global, line: &[u8]) -> Result<(), Fault>
+        requires few { length self.old.names ≤ 1000 }
+        ensures taken { OnOk result (after_line self.old line.now ≡ Ok self.new) }
+        ensures fault { IfErr result (IfKind (λ kind. after_line self.old line.now ≡ Err kind)) }
+    {
+        if !is_utf8(line) {
+            return Err(Fault::Kind(LineKind::Utf8));
+        }
+        let Some((word, rest)) = next_field(line) else {
+            return Ok(());
+        };
+        if word[0] == b'#' {
+            return Ok(());
+        }
+        if self.header {
+            self.take_word(alloc, word, rest)
+        } else {
+            self.take_header(word, rest)
+        }
+    }
+
+    #[tactic(auto, unfolding(crate::specs::Grammar::after_header))]
+    fn take_header(&mut self, word: &[u8], rest: &[u8]) -> Result<(), Fault>
+        ensures taken { OnOk result (after_header self.old (word.now ∷ fields_of rest.now) ≡ Ok self.new) }
+        ensures fault { IfErr result (IfKind (λ kind. after_header self.old (word.now ∷ fields_of rest.now) ≡ Err kind)) }
+    {
+        let Some(number) = one_field(rest) else {
+            return Err(Fault::Kind(LineKind::Header));
+        };
+        if word != b"npp".as_slice() || number != b"1".as_slice() {
+            return Err(Fault::Kind(LineKind::Header));
+        }
+        self.header = true;
+        Ok(())
+    }
+
+    #[tactic(auto, unfolding(crate::specs::Grammar::after_word))]
+    fn take_word(&mut self, alloc: Global, word: &[u8], rest: &[u8]) -> Result<(), Fault>
+        requires few { length self.old.names ≤ 1000 }
+        ensures taken { OnOk result (after_word self.old word.now (fields_of rest.now) ≡ Ok self.new) }
+        ensures fault { IfErr result (IfKind (λ kind. after_word self.old word.now (fields_of rest.now) ≡ Err kind)) }
+    {
+        if word == b"node".as_slice() {
+            return self.take_node(alloc, rest);
+        }
+        if word == b"free".as_slice() {
+            let link = link_of(&self.names, rest)?;
+            return self.take_arc(false, link);
+        }
+        if word == b"toll".as_slice() {
+            let link = link_of(&self.names, rest)?;
+            return self.take_arc(true, link);
+        }
+        if word == b"pair".as_slice() {
+            let link = link_of(&self.names, rest)?;
+            return self.take_pair(link);
+        }
+        Err(Fault::Kind(LineKind::UnknownWord))
+    }
+
+    #[tactic(auto, unfolding(crate::specs::Grammar::after_node))]
+    fn take_node(&mut self, alloc: Global, rest: &[u8]) -> Result<(), Fault>
+        requires few { length self.old.names ≤ 1000 }
+        ensures taken { OnOk result (after_node self.old (fields_of rest.now) ≡ Ok self.new) }
+        ensures fault { IfErr result (IfKind (λ kind. after_node self.old (fields_of rest.now) ≡ Err kind)) }
+    {
+        let Some(field) = one_field(rest) else {
+            return Err(Fault::Kind(LineKind::FieldCount));
+        };
+        let name = name_of(field)?;
+        if self.names.find(name).is_some() {
+            return Err(Fault::Kind(LineKind::RepeatedNode));
+        }
+        if self.names.len() >= MAX_NODES {
+            return Err(Fault::Kind(LineKind::TooManyNodes));
+        }
+        self.names.push(alloc, name)?;
+        Ok(())
+    }
+
+    #[tactic(auto, unfolding(crate::specs::Grammar::after_arc))]
+    fn take_arc(&mut self, toll: bool, link: Link) -> Result<(), Fault>
+        ensures taken { OnOk result (after_arc self.old toll link ≡ Ok self.new) }
+        ensures fault { IfErr result (IfKind (λ kind. after_arc self.old toll link ≡ Err kind)) }
+    {
+        if self.arcs.len() >= MAX_ARCS {
+            return Err(Fault::Kind(LineKind::TooManyArcs));
+        }
+        if toll && self.arcs.iter().filter(|x| x.toll).count() >= MAX_TOLLS {
+            return Err(Fault::Kind(LineKind::TooManyTolls));
+        }
+        self.arcs.push(NetArc {
+            tail: link.from,
+            head: link.to,
+            cost: link.number,
+            toll,
+        })?;
+        Ok(())
+    }
+
+    #[tactic(auto, unfolding(crate::specs::Grammar::after_pair))]
+    fn take_pair(&mut self, link: Link) -> Result<(), Fault>
+        ensures taken { OnOk result (after_pair self.old link ≡ Ok self.new) }
+        ensures fault { IfErr result (IfKind (λ kind. after_pair self.old link ≡ Err kind)) }
+    {
+        if link.from.0 == link.to.0 {
+            return Err(Fault::Kind(LineKind::SameEnds));
+        }
+        if link.number == 0 {
+            return Err(Fault::Kind(LineKind::ZeroDemand));
+        }
+        if self.commodities.len() >= MAX_COMMODITIES {
+            return Err(Fault::Kind(LineKind::TooManyCommodities));
+        }
+        self.commodities.push(Commodity {
+            origin: link.from,
+            destination: link.to,
+            demand: link.number,
+        })?;
+        Ok(())
+    }
+
+    /// The document that is declared, where the text ends here.
+    #[tactic(auto, unfolding(crate::specs::Reading::at_end))]
+    pub(crate) fn finish(self, alloc: Global) -> Result<Document, Fault>
+        requires within { IsWithin self }
+        ensures document { IfOk result (λ document. at_end self ≡ Ok document) }
+        ensures fault { IfErr result (IfKind (λ kind. at_end self ≡ Err kind)) }
+    {
+        let Draft {
+            header,
+            names,
+            arcs,
+            commodities,
+        } = self;
+        if !header {
+            return Err(Fault::Kind(LineKind::Header));
+        }
+        if commodities.is_empty() {
+            return Err(Fault::Kind(LineKind::NoCommodity));
+        }
+        match Instance::new(alloc, names.len() as u32, arcs, commodities) {
+            Ok(instance) => Ok(Document { names, instance }),
+            Err(refusal) => match refusal {
+                NetRefusal::Memory => Err(Fault::Memory),
+                _ => unreachable!(),
+            },
+        }
+    }
+}
