@@ -71,3 +71,6 @@ limit_at_most w h = elim h [
   | inl e ↦ rw e (omega arith)
   | inr k ↦ elim k [ inl e ↦ rw e (omega arith) | inr e ↦ rw e (omega arith) ]
 ]
+
+pub fits_wide : (q : Rational) (w : ℕ) → IsWidth w → FitsBelow (limit_of w) q → FitsBelow (limit_of 128) q
+fits_wide q w h f = FitsBelow_wider (limit_of w) (limit_of 128) q (limit_at_most w h) f

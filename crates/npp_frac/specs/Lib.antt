@@ -15,3 +15,4 @@ pub mod WideLaws
 pub mod Narrow
 pub mod NarrowLaws
 pub mod FractionText
+pub mod Operation

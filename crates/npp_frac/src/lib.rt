@@ -18,6 +18,7 @@ mod numbers;
 mod reduced;
 mod refusal;
 mod text;
+mod widths;
 
 pub use exact::Exact;
 pub use frac32::Frac32;
@@ -25,3 +26,4 @@ pub use frac64::Frac64;
 pub use frac128::Frac128;
 pub use refusal::{Memory, Op, Overflow};
 pub use text::{parse_fraction, print_fraction};
+pub use widths::{apply, apply_at_both};

@@ -1,12 +1,11 @@
-// The text of a fraction, both ways.
+// The text of a fraction, read and printed.
 
 ghost use Rattle.std.specs.Prelude.{◌≡◌, ◌≢◌, ◌<◌, ◌^◌, ◌↔◌, ◌++◌, IsTrue, ℕ, pos, cond, int_lt, neg_ℤ, length, slice_index, Some, IfSome, IfNone, IsSomeAnd, IfOk};
 ghost use Rattle.std.specs.Fmt.{decimal};
 ghost use Rattle.std.specs.String.{string_bytes};
 ghost use Rattle.npp_frac.specs.Gcd.{gcd as gcd_of};
 ghost use Rattle.npp_frac.specs.Rational.{Rational};
-ghost use Rattle.npp_frac.specs.Fits.{FitsBelow, limit_of};
-ghost use Rattle.npp_frac.specs.FractionText.{IsPairText, fraction_text};
+ghost use Rattle.npp_frac.specs.FractionText.{IsFractionText, IsPairText};
 ghost use Rattle.npp_frac.specs.Wide.{value_of_wide};
 
 use crate::exact::Exact;
@@ -21,8 +20,8 @@ use std::alloc::Global;
 /// a slash and a denominator of at least 2 without a common factor. A minus sign may stand before
 /// them, but not before zero. Anything else is None.
 pub fn parse_fraction(bytes: &[u8]) -> Option<Frac128>
-    ensures text { IfSome result (λ f. bytes.now ≡ fraction_text (value_of_wide f)) }
-    ensures each { (q : Rational) → FitsBelow (limit_of 128) q → bytes.now ≡ fraction_text q → IsSomeAnd result (λ f. value_of_wide f ≡ q) }
+    ensures text { IfSome result (λ f. IsFractionText bytes.now (value_of_wide f)) }
+    ensures each { (q : Rational) → IsFractionText bytes.now q → IsSomeAnd result (λ f. value_of_wide f ≡ q) }
 {
     if is_negative(bytes) {
         let (num, den) = pair_of(&bytes[1..])?;
@@ -38,7 +37,7 @@ pub fn parse_fraction(bytes: &[u8]) -> Option<Frac128>
 
 /// The one text of a value.
 pub fn print_fraction<N: Exact>(alloc: Global, value: N) -> Result<String, Memory>
-    ensures { IfOk result (λ text. string_bytes text ≡ fraction_text (N.rational value)) }
+    ensures { IfOk result (λ text. IsFractionText (string_bytes text) (N.rational value)) }
 {
     let num = value.num();
     let den = value.den();
