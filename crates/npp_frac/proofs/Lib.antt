@@ -1,4 +1,4 @@
-pub mod Tests
+pub mod Deciding
 pub mod Digits
 pub mod Pairs
 pub mod Wider

@@ -1,12 +1,11 @@
 -- The text of a fraction and its parts.
-use Rattle.std.specs.Prelude.{◌≡◌, ◌≢◌, ℕ, zero, suc, ◌+◌, ◌*◌, ◌<◌, ◌≤◌, ◌^◌, ℤ, pos, negsuc, neg_ℤ, nat_abs, List, [], ◌∷◌, ◌++◌, length, take, drop, refl, cond, ◌==◌, true, false, ◌-◌, Option, Some, unwrap_or}
+use Rattle.std.specs.Prelude.{◌≡◌, ◌≢◌, ℕ, zero, suc, ◌+◌, ◌<◌, ◌^◌, ℤ, pos, negsuc, neg_ℤ, nat_abs, List, [], ◌∷◌, ◌++◌, length, take, drop, refl, ◌==◌, true, false, ◌-◌, Option, Some, unwrap_or}
 use Rattle.std.specs.Fmt.{decimal, signed_decimal}
-use Rattle.std.proofs.Common.{arith, ap, ap₂, sym, subst, ◌∙◌, get_or, inl, inr, ne_eqb, eq-eqb, drop-cons, length-drop}
+use Rattle.std.proofs.Common.{arith, ap, ap₂, sym, ◌∙◌, get_or, inl, inr, ne_eqb, eq-eqb, length-drop}
 use Rattle.std.proofs.Math.ListN.{length-append, get_or-append}
 use Rattle.std.proofs.Math.Seq.{take-append_seam, drop-append-add, take-length, get_or-append_seam}
-use Rattle.std.proofs.lemmas.List.{take-append-drop}
 use mathlib.Core.List.{append-nil}
-use Rattle.npp_frac.specs.Gcd.{gcd, gcd-one}
+use Rattle.npp_frac.specs.Gcd.{gcd-one}
 use Rattle.npp_frac.specs.Fits.{FitsBelow}
 use Rattle.npp_frac.specs.FractionText.{IsPairText, denominator_text, fraction_text}
 use Rattle.npp_frac.specs.Rational.{Rational}
@@ -39,9 +38,12 @@ whole_of_unslashed bs n d p none = elim (eq_or_not d 1) [
 ]
 
 pub record Halves (bs : List ℕ) (at n d : ℕ) : Type 0 where
-  pub not_one : d ≢ 1
+  pub above : 1 < d
   pub num : take at bs ≡ decimal n
   pub den : drop (at + 1) bs ≡ decimal d
+
+one_below : (d : ℕ) → 0 < d → d ≢ 1 → 1 < d
+one_below d h ne = omega arith
 
 halves_at : (bs xs ys : List ℕ) (y at : ℕ) → bs ≡ xs ++ y ∷ ys → at ≡ length xs → (take at bs ≡ xs) × (drop (at + 1) bs ≡ ys)
 halves_at bs xs ys y at e h =
@@ -59,7 +61,7 @@ halves_of_slashed bs at n d p within found before = elim (eq_or_not d 1) [
       let not_below : at < length (decimal n) → ⊥ = λ l. decimal_not_in n 47 at (omega (arith, p.num_below)) (λ r. omega (arith, r)) l (sym (ap (λ t. get_or t at 0) w ∙ get_or-append (decimal n) (47 ∷ decimal d) 0 at l) ∙ found) in
       let not_above : length (decimal n) < at → ⊥ = λ l. before (length (decimal n)) l s.1 in
       let h = halves_at bs (decimal n) (decimal d) 47 at w (omega arith) in
-      record { not_one = ne; num = h.0; den = h.1 }
+      record { above = one_below d p.positive ne; num = h.0; den = h.1 }
 ]
 
 pub pair_text_whole : (bs : List ℕ) (n : ℕ) → n < 2 ^ 127 → bs ≡ decimal n → IsPairText bs n 1
@@ -69,22 +71,6 @@ pair_text_whole bs n small e = record {
   positive = omega arith;
   reduced = gcd-one n;
   text = e ∙ sym (append-nil (decimal n));
-}
-
-add_suc : (at : ℕ) → suc at ≡ at + 1
-add_suc at = omega arith
-
-joined : (bs : List ℕ) (at : ℕ) → at < length bs → get_or bs at 0 ≡ 47 → bs ≡ take at bs ++ 47 ∷ drop (at + 1) bs
-joined bs at l e =
-    sym (take-append-drop at bs) ∙ ap (λ t. take at bs ++ t) (drop-cons bs at 0 l ∙ ap₂ ◌∷◌ e (ap (λ t. drop t bs) (add_suc at)))
-
-pub pair_text_slashed : (bs : List ℕ) (at n d : ℕ) → at < length bs → get_or bs at 0 ≡ 47 → n < 2 ^ 127 → take at bs ≡ decimal n → d < 2 ^ 127 → drop (at + 1) bs ≡ decimal d → 1 < d → gcd n d ≡ 1 → IsPairText bs n d
-pair_text_slashed bs at n d l e n_small num d_small den above coprime = record {
-  num_below = n_small;
-  den_below = d_small;
-  positive = omega arith;
-  reduced = coprime;
-  text = joined bs at l e ∙ ap₂ (λ s t. s ++ 47 ∷ t) num den ∙ ap (λ t. decimal n ++ t) (sym (not_one d (λ h. omega arith)));
 }
 
 record Signed (bs : List ℕ) (z : ℤ) (d : ℕ) : Type 0 where
@@ -143,13 +129,14 @@ pub text_of_unsigned : (bs : List ℕ) (q : Rational) (n d : ℕ) → IsPairText
 unfolding fraction_text
 text_of_unsigned bs q n d p num den = p.text ∙ sym (ap₂ (λ z t. signed_decimal z ++ denominator_text t) num den)
 
-pub whole_written : (s : List ℕ) (q : Rational) → s ≡ signed_decimal q.num → q.den ≡ 1 → s ≡ fraction_text q
+pub whole_written : (s : List ℕ) (q : Rational) (n : ℤ) → s ≡ signed_decimal n → n ≡ q.num → q.den ≡ 1 → s ≡ fraction_text q
 unfolding fraction_text
-whole_written s q e d = e ∙ sym (append-nil (signed_decimal q.num)) ∙ ap (λ t. signed_decimal q.num ++ t) (sym (one q.den d))
+whole_written s q n e num den = e ∙ ap signed_decimal num ∙ sym (append-nil (signed_decimal q.num)) ∙ ap (λ t. signed_decimal q.num ++ t) (sym (one q.den den))
 
-pub ratio_written : (s : List ℕ) (q : Rational) → s ≡ signed_decimal q.num ++ 47 ∷ decimal q.den → q.den ≢ 1 → s ≡ fraction_text q
+pub ratio_written : (s : List ℕ) (q : Rational) (n d : ℤ) → s ≡ signed_decimal n ++ 47 ∷ signed_decimal d → n ≡ q.num → d ≡ pos q.den → q.den ≢ 1 → s ≡ fraction_text q
 unfolding fraction_text
-ratio_written s q e d = e ∙ ap (λ t. signed_decimal q.num ++ t) (sym (not_one q.den d))
+ratio_written s q n d e num den more =
+    e ∙ ap₂ (λ x y. signed_decimal x ++ 47 ∷ signed_decimal y) num den ∙ ap (λ t. signed_decimal q.num ++ t) (sym (not_one q.den more))
 
 -- the part from k on
 pub tail_is : (bs : List ℕ) (k : ℕ) → take (length bs - k) (drop k bs) ≡ drop k bs

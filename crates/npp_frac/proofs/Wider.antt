@@ -1,5 +1,5 @@
 -- What fits at a width fits at each greater width, with the same value.
-use Rattle.std.specs.Prelude.{◌≡◌, ℕ, ◌≤◌, ◌-◌, ◌^◌, Bool, true, false, Result, Ok, Err, is_ok, IfOk, IsOkAnd}
+use Rattle.std.specs.Prelude.{◌≡◌, ℕ, ◌≤◌, true, Result, Ok, Err, is_ok, IfOk, IsOkAnd}
 use Rattle.std.proofs.Common.{arith, ap₂, sym, subst, ◌∙◌, refl, true≢false}
 use Rattle.std.proofs.Math.Nat.{pow-le-pow_right}
 use Rattle.npp_frac.specs.Fits.{limit_of}

@@ -2,6 +2,7 @@ pub mod Gcd
 pub mod Rational
 pub mod Ring
 pub mod Order
+pub mod Sign
 pub mod Division
 pub mod Floor
 pub mod Sums

@@ -1,5 +1,5 @@
 -- Fractions of 32 and of 64 bits keep their limit, and each value has one.
-use Rattle.std.specs.Prelude.{◌≡◌, ℕ, ◌<◌, ◌^◌, nat_abs, refl}
+use Rattle.std.specs.Prelude.{◌≡◌, ℕ, ◌^◌, refl}
 use Rattle.std.proofs.Common.{inl, inr}
 use Rattle.std.proofs.Math.Bridge.{le_prop}
 use mathlib.Core.HLevel.{is_prop→PathP}

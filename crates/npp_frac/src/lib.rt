@@ -17,6 +17,8 @@ mod gcd;
 mod numbers;
 mod reduced;
 mod refusal;
+#[cfg(test)]
+mod tests;
 mod text;
 mod widths;
 

@@ -16,6 +16,9 @@ use crate::reduced::Reduced;
 use crate::refusal::Memory;
 use std::alloc::Global;
 
+/// The denominator of a whole number, which its text leaves out.
+const WHOLE: i128 = 1;
+
 /// The fraction that a text of 128 bits stands for: digits without leading zeros, or such digits,
 /// a slash and a denominator of at least 2 without a common factor. A minus sign may stand before
 /// them, but not before zero. Anything else is None.
@@ -41,7 +44,7 @@ pub fn print_fraction<N: Exact>(alloc: Global, value: N) -> Result<String, Memor
 {
     let num = value.num();
     let den = value.den();
-    if den == 1 {
+    if den == WHOLE {
         Ok(format!(in alloc; "{num}")?)
     } else {
         Ok(format!(in alloc; "{num}/{den}")?)
@@ -82,13 +85,20 @@ fn pair_of(bytes: &[u8]) -> Option<(u128, u128)>
         Some(at) => {
             let num = whole_number(&bytes[..at])?;
             let den = whole_number(&bytes[at + 1..])?;
-            if 1 < den && gcd(num, den) == 1 {
+            if is_proper(num, den) {
                 Some((num, den))
             } else {
                 None
             }
         }
     }
+}
+
+/// Whether a pair may stand in a text with its denominator.
+fn is_proper(num: u128, den: u128) -> bool
+    ensures { IsTrue result ↔ ((1 < den) × (gcd_of num den ≡ 1)) }
+{
+    1 < den && gcd(num, den) == 1
 }
 
 /// The index of the first slash.

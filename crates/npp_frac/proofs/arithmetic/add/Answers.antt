@@ -1,5 +1,5 @@
 use Rattle.npp_frac.specs.FitsLaws.{fits_add_yes, fits_add_no}
-use Rattle.npp_frac.proofs.Tests.{is_some_by}
+use Rattle.npp_frac.proofs.Deciding.{is_some_by}
 use Rattle.npp_frac.proofs.arithmetic.add.Goals as goal
 
 pub returns-clause-fits : goal.returns-clause-fits

@@ -1,5 +1,5 @@
 use Rattle.npp_frac.specs.FitsLaws.{fits_mul_yes, fits_mul_no}
-use Rattle.npp_frac.proofs.Tests.{is_some_by}
+use Rattle.npp_frac.proofs.Deciding.{is_some_by}
 use Rattle.npp_frac.proofs.arithmetic.mul.Goals as goal
 
 pub returns-clause-fits : goal.returns-clause-fits

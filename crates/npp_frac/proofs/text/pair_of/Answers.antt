@@ -1,8 +1,7 @@
-use Rattle.std.proofs.Common.{arith, sym, ap₂, ◌∙◌, ◌≡◌, ◌+◌}
+use Rattle.std.proofs.Common.{arith, ap₂, ◌∙◌, ◌≡◌, ◌+◌, ◌<◌}
 use Rattle.npp_frac.specs.Gcd.{gcd}
 use Rattle.npp_frac.proofs.Pairs.{whole_of_unslashed, halves_of_slashed, pair_text_whole, tail_is}
 use Rattle.npp_frac.proofs.text.pair_of.Goals as goal
-use Rattle.npp_frac.proofs.text.pair_of.Goals.{else-den-gt1-via-then-den-gt1+else-gcd-eq1, else-den-gt1-via-else-den-gt1}
 
 pub returns-in_err-whole_number-in-None-clause-each :
     goal.returns-in_err-whole_number-in-None-clause-each
@@ -31,17 +30,15 @@ returns-in_ok-whole_number-in-None-clause-each c n d p =
     let whole = whole_of_unslashed c.args.bytes.now n d p c.in-None.ensures.none in
     cc (c.in_ok-whole_number-in-None.ensures.each n p.num_below whole.1, whole.0)
 
-pub returns-then-gcd-eq1-clause-each : goal.returns-then-gcd-eq1-clause-each
-returns-then-gcd-eq1-clause-each c n d p =
+pub returns-then-is_proper-clause-each : goal.returns-then-is_proper-clause-each
+returns-then-is_proper-clause-each c n d p =
     let halves = halves_of_slashed c.args.bytes.now c.in-Some.at n d p c.in-Some.ensures.found.0 c.in-Some.ensures.found.1 c.in-Some.ensures.before in
     cc (c.in_ok-num-in-Some.ensures.each n p.num_below halves.num, c.in_ok-den-in-Some.ensures.each d p.den_below (tail_is c.args.bytes.now (c.in-Some.at + 1) ∙ halves.den))
 
-pub returns-else-den-gt1-clause-each : goal.returns-else-den-gt1-clause-each
-returns-else-den-gt1-clause-each c n d p =
+pub returns-else-is_proper-clause-each : goal.returns-else-is_proper-clause-each
+returns-else-is_proper-clause-each c n d p =
     let halves = halves_of_slashed c.args.bytes.now c.in-Some.at n d p c.in-Some.ensures.found.0 c.in-Some.ensures.found.1 c.in-Some.ensures.before in
     let num : c.in_ok-num-in-Some.num ≡ n = cc (c.in_ok-num-in-Some.ensures.each n p.num_below halves.num) in
     let den : c.in_ok-den-in-Some.den ≡ d = cc (c.in_ok-den-in-Some.ensures.each d p.den_below (tail_is c.args.bytes.now (c.in-Some.at + 1) ∙ halves.den)) in
-    elim c.else-den-gt1.branch [
-      | else-den-gt1-via-then-den-gt1+else-gcd-eq1 w ↦ absurd (w.if-gcd-eq1.false (w.gcd.ensures.exact ∙ ap₂ gcd num den ∙ p.reduced))
-      | else-den-gt1-via-else-den-gt1 w ↦ absurd (halves.not_one (omega (arith, den, w.if-den-gt1.false, p.positive)))
-    ]
+    let more : 1 < c.in_ok-den-in-Some.den = omega (arith, den, halves.above) in
+    cc (c.if-is_proper.ensures.1 (more, ap₂ gcd num den ∙ p.reduced))

@@ -1,4 +1,4 @@
-use Rattle.std.proofs.Common.{arith, refl, ap, sym, ◌∙◌, ◌≡◌, ◌<◌, pos, nat_abs}
+use Rattle.std.proofs.Common.{arith, refl, ap, sym, ◌∙◌, pos, nat_abs}
 use Rattle.std.specs.Prelude.{neg_ℤ}
 use Rattle.npp_frac.specs.Rational.{same_fields}
 use Rattle.npp_frac.specs.Wide.{value_of_wide}

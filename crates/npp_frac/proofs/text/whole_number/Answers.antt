@@ -1,4 +1,4 @@
-use Rattle.std.proofs.Common.{arith, refl, sym, subst, ◌∙◌, ◌≡◌, ◌<◌, ◌^◌, ℕ, List}
+use Rattle.std.proofs.Common.{arith, refl, subst, ◌∙◌, ◌≡◌, ℕ, List}
 use Rattle.std.specs.Prelude.{IsTrue, Ok}
 use Rattle.std.specs.Str.Parse.{ParsesUnsigned}
 use Rattle.std.proofs.lemmas.Fmt.{parse-decimal_wide}
