@@ -1,0 +1,28 @@
+-- The sums of a program at a width: begun at 0, in row order for a column, in column order for a row and for the goal.
+use Rattle.std.specs.Prelude.{ℕ, List, length, slice_index_or, Result}
+use Rattle.npp_frac.specs.Rational.{Rational, zero_ℚ}
+use Rattle.npp_frac.specs.declared.refusal.Overflow.{Overflow}
+use Rattle.npp_lp.specs.Programs.{Term, Row, LinearProgram, at, row_of}
+use Rattle.npp_lp.specs.Duals.{entry_of}
+use Rattle.npp_lp.specs.Sums.{checked_sum}
+
+-- the sum of a column
+abbrev pub checked_column : ℕ → LinearProgram → List Rational → ℕ → Result Rational (Overflow Rational)
+checked_column m p y j = checked_sum m (length p.rows) (λ i. entry_of (row_of p i) j) (at y)
+
+-- the sum of the right sides
+abbrev pub checked_right : ℕ → LinearProgram → List Rational → Result Rational (Overflow Rational)
+checked_right m p y = checked_sum m (length p.rows) (λ i. (row_of p i).right) (at y)
+
+-- what is read past the last term
+abbrev pub no_term : Term
+no_term = record { column = 0; value = zero_ℚ }
+
+-- the left side of a row at a point, term by term
+abbrev pub checked_row : ℕ → Row → List Rational → Result Rational (Overflow Rational)
+checked_row m r x =
+    checked_sum m (length r.terms) (λ k. (slice_index_or r.terms k no_term).value) (λ k. at x (slice_index_or r.terms k no_term).column)
+
+-- the goal at a point
+abbrev pub checked_goal : ℕ → LinearProgram → List Rational → Result Rational (Overflow Rational)
+checked_goal m p x = checked_sum m p.columns (at p.goal) (at x)

@@ -1,0 +1,10 @@
+pub mod Programs
+pub mod Duals
+pub mod DualLaws
+pub mod Verdict
+pub mod Sums
+pub mod Checked
+pub mod DualVerdict
+pub mod FarkasVerdict
+pub mod PrimalVerdict
+pub mod Meaning

@@ -1,0 +1,77 @@
+-- What the programs and answers of the code stand for, over the rational numbers. `value` says what a number stands for.
+use Rattle.std.specs.Prelude.{◌≡◌, ℕ, ◌+◌, ◌^◌, ◌<◌, List, [], ◌∷◌, length, map, All, Vec, Result, Ok, Err}
+use Rattle.std.specs.Global.{Global}
+use Rattle.npp_frac.specs.Rational.{Rational}
+use Rattle.npp_frac.specs.declared.refusal.Overflow.{Overflow as Stop}
+use Rattle.npp_lp.specs.declared.program.Entry.{Entry}
+use Rattle.npp_lp.specs.declared.program.Program.{Program}
+use Rattle.npp_lp.specs.declared.faults.DualFault.{DualFault}
+use Rattle.npp_lp.specs.declared.faults.DualFault.TheVariants as dual
+use Rattle.npp_lp.specs.declared.faults.FarkasFault.{FarkasFault}
+use Rattle.npp_lp.specs.declared.faults.FarkasFault.TheVariants as farkas
+use Rattle.npp_lp.specs.declared.faults.PrimalFault.{PrimalFault}
+use Rattle.npp_lp.specs.declared.faults.PrimalFault.TheVariants as primal
+use Rattle.npp_lp.specs.Programs.{Term, Row, LinearProgram, IsRow}
+
+abbrev pub term_of : {N : Type 0} → (N → Rational) → Entry N → Term
+term_of value e = record { column = e.column; value = value e.value }
+
+-- each row with its right side
+abbrev pub rows_of : {N : Type 0} → (N → Rational) → List (Vec (Entry N) Global) → List N → List Row
+rows_of value [] right = []
+rows_of value (r ∷ rs) [] = []
+rows_of value (r ∷ rs) (b ∷ bs) = record { terms = map (term_of value) r.items; right = value b } ∷ rows_of value rs bs
+
+abbrev pub linear_program : {N : Type 0} → (N → Rational) → Program N → LinearProgram
+linear_program value p = record {
+  columns = p.columns;
+  rows = rows_of value p.rows.items p.right.items;
+  goal = map value p.goal.items;
+}
+
+-- what each call asks of a program: its entries stand in order, its lists agree in length, and its rows and columns
+-- together can be numbered
+pub record IsProgram {N : Type 0} (value : N → Rational) (p : Program N) : Type 0 where
+  pub rows : All (IsRow p.columns) (linear_program value p).rows
+  pub right : length p.right.items ≡ length p.rows.items
+  pub goal : length p.goal.items ≡ p.columns
+  pub numbered : p.columns + length p.rows.items < 2 ^ 31
+
+abbrev pub overflow_of : {N : Type 0} → (N → Rational) → Stop N → Stop Rational
+overflow_of value o = record { op = o.op; left = value o.left; right = value o.right }
+
+-- the result of a sum
+abbrev pub sum_result : {N : Type 0} → (N → Rational) → Result N (Stop N) → Result Rational (Stop Rational)
+sum_result value (Ok s) = Ok (value s)
+sum_result value (Err o) = Err (overflow_of value o)
+
+abbrev pub dual_fault : {N : Type 0} → (N → Rational) → DualFault N → DualFault Rational
+dual_fault value (dual.NegativeRow i) = dual.NegativeRow i
+dual_fault value (dual.Column j) = dual.Column j
+dual_fault value (dual.Overflow o) = dual.Overflow (overflow_of value o)
+
+abbrev pub farkas_fault : {N : Type 0} → (N → Rational) → FarkasFault N → FarkasFault Rational
+farkas_fault value (farkas.NegativeRow i) = farkas.NegativeRow i
+farkas_fault value (farkas.Column j) = farkas.Column j
+farkas_fault value farkas.NotBelowZero = farkas.NotBelowZero
+farkas_fault value (farkas.Overflow o) = farkas.Overflow (overflow_of value o)
+
+abbrev pub primal_fault : {N : Type 0} → (N → Rational) → PrimalFault N → PrimalFault Rational
+primal_fault value (primal.NegativeColumn j) = primal.NegativeColumn j
+primal_fault value (primal.Row i) = primal.Row i
+primal_fault value (primal.Overflow o) = primal.Overflow (overflow_of value o)
+
+-- the result of a check of a dual answer
+abbrev pub dual_result : {N : Type 0} → (N → Rational) → Result N (DualFault N) → Result Rational (DualFault Rational)
+dual_result value (Ok v) = Ok (value v)
+dual_result value (Err f) = Err (dual_fault value f)
+
+-- the result of a check of a Farkas answer
+abbrev pub farkas_result : {N : Type 0} → (N → Rational) → Result (Unit {0}) (FarkasFault N) → Result (Unit {0}) (FarkasFault Rational)
+farkas_result value (Ok u) = Ok u
+farkas_result value (Err f) = Err (farkas_fault value f)
+
+-- the result of a check of a point
+abbrev pub primal_result : {N : Type 0} → (N → Rational) → Result N (PrimalFault N) → Result Rational (PrimalFault Rational)
+primal_result value (Ok v) = Ok (value v)
+primal_result value (Err f) = Err (primal_fault value f)

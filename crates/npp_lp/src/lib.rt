@@ -1,0 +1,8 @@
+//! Linear programs over exact fractions, and checks of their answers.
+#![tactic(auto)]
+
+mod faults;
+mod program;
+
+pub use faults::{DualFault, FarkasFault, PrimalFault};
+pub use program::{Entry, Program};
