@@ -2,13 +2,13 @@
 use Rattle.std.specs.Prelude.{ℕ, List, length, slice_index_or, Result}
 use Rattle.npp_frac.specs.Rational.{Rational, zero_ℚ}
 use Rattle.npp_frac.specs.declared.refusal.Overflow.{Overflow}
-use Rattle.npp_lp.specs.Programs.{Term, Row, LinearProgram, at, row_of}
-use Rattle.npp_lp.specs.Duals.{entry_of}
+use Rattle.npp_lp.specs.Programs.{Term, LinearProgram, at, row_of}
+use Rattle.npp_lp.specs.Duals.{coefficient}
 use Rattle.npp_lp.specs.Sums.{checked_sum}
 
 -- the sum of a column
 abbrev pub checked_column : ℕ → LinearProgram → List Rational → ℕ → Result Rational (Overflow Rational)
-checked_column m p y j = checked_sum m (length p.rows) (λ i. entry_of (row_of p i) j) (at y)
+checked_column m p y j = checked_sum m (length p.rows) (λ i. coefficient (row_of p i).terms j) (at y)
 
 -- the sum of the right sides
 abbrev pub checked_right : ℕ → LinearProgram → List Rational → Result Rational (Overflow Rational)
@@ -18,10 +18,10 @@ checked_right m p y = checked_sum m (length p.rows) (λ i. (row_of p i).right) (
 abbrev pub no_term : Term
 no_term = record { column = 0; value = zero_ℚ }
 
--- the left side of a row at a point, term by term
-abbrev pub checked_row : ℕ → Row → List Rational → Result Rational (Overflow Rational)
-checked_row m r x =
-    checked_sum m (length r.terms) (λ k. (slice_index_or r.terms k no_term).value) (λ k. at x (slice_index_or r.terms k no_term).column)
+-- the sum of the terms at a point
+abbrev pub checked_terms : ℕ → List Term → List Rational → Result Rational (Overflow Rational)
+checked_terms m terms x =
+    checked_sum m (length terms) (λ k. (slice_index_or terms k no_term).value) (λ k. at x (slice_index_or terms k no_term).column)
 
 -- the goal at a point
 abbrev pub checked_goal : ℕ → LinearProgram → List Rational → Result Rational (Overflow Rational)

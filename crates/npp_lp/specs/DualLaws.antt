@@ -6,20 +6,17 @@ use Rattle.npp_frac.specs.Rational.{Rational, zero_ℚ, ◌+ℚ◌, ◌*ℚ◌, 
 use Rattle.npp_frac.specs.Ring.{+ℚ-*ℚ, *ℚ_comm, *ℚ_assoc, zero-*ℚ}
 use Rattle.npp_frac.specs.Order.{≤ℚ_refl, ≤ℚ_trans, +ℚ_mono, *ℚ_mono, not-≤ℚ_of_<ℚ}
 use Rattle.npp_frac.specs.Sums.{sum_by, sum_to, sum_to_same, sum_to_mono, sum_to_zero, sum_to-+ℚ, sum_to-*ℚ, unit, sum_to-unit}
-use Rattle.npp_lp.specs.Programs.{Term, Row, LinearProgram, IsRow, at, row_of, no_row, product_sum, row_at, goal_at, AreNotNegative, IsPoint, IsProgramBound, IsInfeasible}
-use Rattle.npp_lp.specs.Duals.{entry_of, column_sum, right_value, IsDualAnswer, IsFarkasAnswer}
+use Rattle.npp_lp.specs.Programs.{Term, LinearProgram, AreTerms, at, row_of, no_row, product_sum, terms_at, goal_at, AreNotNegative, IsPoint, IsProgramBound, IsInfeasible}
+use Rattle.npp_lp.specs.Duals.{coefficient, column_sum, right_value, IsDualAnswer, IsFarkasAnswer}
 
-entries_by_columns : (n : ℕ) (ts : List Term) (x : List Rational) → All (λ t. t.column < n) ts → sum_to n (λ j. sum_by (λ t. unit t.column t.value j) ts *ℚ at x j) ≡ sum_by (λ t. t.value *ℚ at x t.column) ts
+-- the terms at a point, column by column
+pub terms_by_columns : (n : ℕ) (ts : List Term) (x : List Rational) → All (λ t. t.column < n) ts → product_sum n (coefficient ts) (at x) ≡ terms_at ts x
 unfolding sum_by
-entries_by_columns n [] x h = sum_to_same n (λ j. zero_ℚ *ℚ at x j) (λ j. zero_ℚ) (λ j l. zero-*ℚ (at x j)) ∙ sum_to_zero n
-entries_by_columns n (t ∷ ts) x h =
+terms_by_columns n [] x h = sum_to_same n (λ j. zero_ℚ *ℚ at x j) (λ j. zero_ℚ) (λ j l. zero-*ℚ (at x j)) ∙ sum_to_zero n
+terms_by_columns n (t ∷ ts) x h =
     sum_to_same n (λ j. (unit t.column t.value j +ℚ sum_by (λ s. unit s.column s.value j) ts) *ℚ at x j) (λ j. unit t.column t.value j *ℚ at x j +ℚ sum_by (λ s. unit s.column s.value j) ts *ℚ at x j) (λ j l. +ℚ-*ℚ (unit t.column t.value j) (sum_by (λ s. unit s.column s.value j) ts) (at x j))
     ∙ sum_to-+ℚ n (λ j. unit t.column t.value j *ℚ at x j) (λ j. sum_by (λ s. unit s.column s.value j) ts *ℚ at x j)
-    ∙ ap₂ ◌+ℚ◌ (sum_to-unit n t.column t.value (at x) (All-head (λ s. s.column < n) t ts h)) (entries_by_columns n ts x (All-tail (λ s. s.column < n) t ts h))
-
--- a row at a point, column by column
-pub row_by_columns : (n : ℕ) (r : Row) (x : List Rational) → All (λ t. t.column < n) r.terms → sum_to n (λ j. entry_of r j *ℚ at x j) ≡ row_at r x
-row_by_columns n r x h = entries_by_columns n r.terms x h
+    ∙ ap₂ ◌+ℚ◌ (sum_to-unit n t.column t.value (at x) (All-head (λ s. s.column < n) t ts h)) (terms_by_columns n ts x (All-tail (λ s. s.column < n) t ts h))
 
 -- one more row in a combination of rows at a point
 more_rows : (n i : ℕ) (e : ℕ → ℕ → Rational) (y : ℕ → Rational) (x : ℕ → Rational) → sum_to n (λ j. product_sum (suc i) (λ k. e k j) y *ℚ x j) ≡ sum_to n (λ j. product_sum i (λ k. e k j) y *ℚ x j) +ℚ y i *ℚ sum_to n (λ j. e i j *ℚ x j)
@@ -32,25 +29,25 @@ more_rows n i e y x =
     ∙ ap (λ t. sum_to n (λ j. product_sum i (λ k. e k j) y *ℚ x j) +ℚ t) (sum_to-*ℚ n (y i) (λ j. e i j *ℚ x j))
 
 -- the first rows, each times its multiplier, are together at most their right sides
-combined : (p : LinearProgram) (y x : List Rational) → All (IsRow p.columns) p.rows → length y ≡ length p.rows → AreNotNegative y → IsPoint p x → (i : ℕ) → i ≤ length p.rows → sum_to p.columns (λ j. product_sum i (λ k. entry_of (row_of p k) j) (at y) *ℚ at x j) ≤ℚ product_sum i (λ k. (row_of p k).right) (at y)
+combined : (p : LinearProgram) (y x : List Rational) → All (λ r. AreTerms p.columns r.terms) p.rows → length y ≡ length p.rows → AreNotNegative y → IsPoint p x → (i : ℕ) → i ≤ length p.rows → sum_to p.columns (λ j. product_sum i (λ k. coefficient (row_of p k).terms j) (at y) *ℚ at x j) ≤ℚ product_sum i (λ k. (row_of p k).right) (at y)
 unfolding sum_to
 combined p y x rows size positive point zero h =
     let none : sum_to p.columns (λ j. zero_ℚ *ℚ at x j) ≡ zero_ℚ = sum_to_same p.columns (λ j. zero_ℚ *ℚ at x j) (λ j. zero_ℚ) (λ j l. zero-*ℚ (at x j)) ∙ sum_to_zero p.columns in
     rw none (≤ℚ_refl zero_ℚ)
 combined p y x rows size positive point (suc i) h =
     let here : i < length p.rows = omega arith in
-    let of_row : IsRow p.columns (row_of p i) = rows i no_row here in
-    let kept : row_at (row_of p i) x ≤ℚ (row_of p i).right = point.rows i no_row here in
-    let times : (at y i *ℚ row_at (row_of p i) x) ≤ℚ (at y i *ℚ (row_of p i).right) = *ℚ_mono (positive i zero_ℚ (omega arith)) kept in
-    rw (more_rows p.columns i (λ k j. entry_of (row_of p k) j) (at y) (at x), row_by_columns p.columns (row_of p i) x of_row.in_range, *ℚ_comm (row_of p i).right (at y i))
+    let terms : AreTerms p.columns (row_of p i).terms = rows i no_row here in
+    let kept : terms_at (row_of p i).terms x ≤ℚ (row_of p i).right = point.rows i no_row here in
+    let times : (at y i *ℚ terms_at (row_of p i).terms x) ≤ℚ (at y i *ℚ (row_of p i).right) = *ℚ_mono (positive i zero_ℚ (omega arith)) kept in
+    rw (more_rows p.columns i (λ k j. coefficient (row_of p k).terms j) (at y) (at x), terms_by_columns p.columns (row_of p i).terms x terms.in_range, *ℚ_comm (row_of p i).right (at y i))
     (+ℚ_mono (combined p y x rows size positive point i (omega arith)) times)
 
 -- the columns, each times the number of a point there, are together at most the right sides
-pub columns_at_most : (p : LinearProgram) (y x : List Rational) → All (IsRow p.columns) p.rows → length y ≡ length p.rows → AreNotNegative y → IsPoint p x → product_sum p.columns (column_sum p y) (at x) ≤ℚ right_value p y
+pub columns_at_most : (p : LinearProgram) (y x : List Rational) → All (λ r. AreTerms p.columns r.terms) p.rows → length y ≡ length p.rows → AreNotNegative y → IsPoint p x → product_sum p.columns (column_sum p y) (at x) ≤ℚ right_value p y
 columns_at_most p y x rows size positive point = combined p y x rows size positive point (length p.rows) (omega arith)
 
 -- where no column sum is below some goal, that goal at a point is at most the right sides
-goals_at_most : (p : LinearProgram) (goal : ℕ → Rational) (y x : List Rational) → All (IsRow p.columns) p.rows → length y ≡ length p.rows → AreNotNegative y → ((j : ℕ) → j < p.columns → goal j ≤ℚ column_sum p y j) → IsPoint p x → product_sum p.columns goal (at x) ≤ℚ right_value p y
+goals_at_most : (p : LinearProgram) (goal : ℕ → Rational) (y x : List Rational) → All (λ r. AreTerms p.columns r.terms) p.rows → length y ≡ length p.rows → AreNotNegative y → ((j : ℕ) → j < p.columns → goal j ≤ℚ column_sum p y j) → IsPoint p x → product_sum p.columns goal (at x) ≤ℚ right_value p y
 goals_at_most p goal y x rows size positive above point =
     ≤ℚ_trans
     (sum_to_mono p.columns (λ j. goal j *ℚ at x j) (λ j. column_sum p y j *ℚ at x j) (λ j l.
@@ -58,11 +55,11 @@ goals_at_most p goal y x rows size positive above point =
     (columns_at_most p y x rows size positive point)
 
 -- weak duality: no point has a goal above the value of a dual answer
-pub weak_duality : (p : LinearProgram) (y : List Rational) (v : Rational) → All (IsRow p.columns) p.rows → IsDualAnswer p y v → IsProgramBound p v
+pub weak_duality : (p : LinearProgram) (y : List Rational) (v : Rational) → All (λ r. AreTerms p.columns r.terms) p.rows → IsDualAnswer p y v → IsProgramBound p v
 weak_duality p y v rows d x point = rw d.value (goals_at_most p (at p.goal) y x rows d.size d.not_negative d.columns point)
 
 -- a program with a Farkas answer has no point
-pub no_point_of_farkas : (p : LinearProgram) (y : List Rational) → All (IsRow p.columns) p.rows → IsFarkasAnswer p y → IsInfeasible p
+pub no_point_of_farkas : (p : LinearProgram) (y : List Rational) → All (λ r. AreTerms p.columns r.terms) p.rows → IsFarkasAnswer p y → IsInfeasible p
 no_point_of_farkas p y rows f x point =
     let none : product_sum p.columns (λ j. zero_ℚ) (at x) ≡ zero_ℚ = sum_to_same p.columns (λ j. zero_ℚ *ℚ at x j) (λ j. zero_ℚ) (λ j l. zero-*ℚ (at x j)) ∙ sum_to_zero p.columns in
     not-≤ℚ_of_<ℚ f.value (rw none at (goals_at_most p (λ j. zero_ℚ) y x rows f.size f.not_negative f.columns point))

@@ -2,15 +2,15 @@
 use Rattle.std.specs.Prelude.{◌≡◌, ℕ, ◌<◌, List, length}
 use Rattle.npp_frac.specs.Rational.{Rational, zero_ℚ, ◌≤ℚ◌, ◌<ℚ◌}
 use Rattle.npp_frac.specs.Sums.{sum_by, unit}
-use Rattle.npp_lp.specs.Programs.{Row, LinearProgram, at, row_of, product_sum, AreNotNegative}
+use Rattle.npp_lp.specs.Programs.{Term, LinearProgram, at, row_of, product_sum, AreNotNegative}
 
--- the coefficient of a row in a column: 0 where it has no term there
-abbrev pub entry_of : Row → ℕ → Rational
-entry_of r j = sum_by (λ t. unit t.column t.value j) r.terms
+-- the coefficient of the terms in a column: 0 where none stands there
+abbrev pub coefficient : List Term → ℕ → Rational
+coefficient terms j = sum_by (λ t. unit t.column t.value j) terms
 
--- the sum of a column, each entry times the multiplier of its row
+-- the sum of a column, each coefficient times the multiplier of its row
 abbrev pub column_sum : LinearProgram → List Rational → ℕ → Rational
-column_sum p y j = product_sum (length p.rows) (λ i. entry_of (row_of p i) j) (at y)
+column_sum p y j = product_sum (length p.rows) (λ i. coefficient (row_of p i).terms j) (at y)
 
 -- the sum of the right sides, each times the multiplier of its row
 abbrev pub right_value : LinearProgram → List Rational → Rational

@@ -1,5 +1,6 @@
 -- What the programs and answers of the code stand for, over the rational numbers. `value` says what a number stands for.
-use Rattle.std.specs.Prelude.{◌≡◌, ℕ, ◌+◌, ◌^◌, ◌<◌, List, [], ◌∷◌, length, map, All, Vec, Result, Ok, Err}
+use Rattle.std.specs.Prelude.{◌≡◌, ℕ, ◌+◌, ◌^◌, ◌<◌, List, [], ◌∷◌, length, map, All, Vec, Result}
+use Rattle.std.specs.Result.{result_map_both}
 use Rattle.std.specs.Global.{Global}
 use Rattle.npp_frac.specs.Rational.{Rational}
 use Rattle.npp_frac.specs.declared.refusal.Overflow.{Overflow as Stop}
@@ -11,16 +12,19 @@ use Rattle.npp_lp.specs.declared.faults.FarkasFault.{FarkasFault}
 use Rattle.npp_lp.specs.declared.faults.FarkasFault.TheVariants as farkas
 use Rattle.npp_lp.specs.declared.faults.PrimalFault.{PrimalFault}
 use Rattle.npp_lp.specs.declared.faults.PrimalFault.TheVariants as primal
-use Rattle.npp_lp.specs.Programs.{Term, Row, LinearProgram, IsRow}
+use Rattle.npp_lp.specs.Programs.{Term, Row, LinearProgram, AreTerms}
 
 abbrev pub term_of : {N : Type 0} → (N → Rational) → Entry N → Term
 term_of value e = record { column = e.column; value = value e.value }
+
+abbrev pub terms_of : {N : Type 0} → (N → Rational) → List (Entry N) → List Term
+terms_of value entries = map (term_of value) entries
 
 -- each row with its right side
 abbrev pub rows_of : {N : Type 0} → (N → Rational) → List (Vec (Entry N) Global) → List N → List Row
 rows_of value [] right = []
 rows_of value (r ∷ rs) [] = []
-rows_of value (r ∷ rs) (b ∷ bs) = record { terms = map (term_of value) r.items; right = value b } ∷ rows_of value rs bs
+rows_of value (r ∷ rs) (b ∷ bs) = record { terms = terms_of value r.items; right = value b } ∷ rows_of value rs bs
 
 abbrev pub linear_program : {N : Type 0} → (N → Rational) → Program N → LinearProgram
 linear_program value p = record {
@@ -32,18 +36,13 @@ linear_program value p = record {
 -- what each call asks of a program: its entries stand in order, its lists agree in length, and its rows and columns
 -- together can be numbered
 pub record IsProgram {N : Type 0} (value : N → Rational) (p : Program N) : Type 0 where
-  pub rows : All (IsRow p.columns) (linear_program value p).rows
+  pub rows : All (λ r. AreTerms p.columns r.terms) (linear_program value p).rows
   pub right : length p.right.items ≡ length p.rows.items
   pub goal : length p.goal.items ≡ p.columns
   pub numbered : p.columns + length p.rows.items < 2 ^ 31
 
 abbrev pub overflow_of : {N : Type 0} → (N → Rational) → Stop N → Stop Rational
 overflow_of value o = record { op = o.op; left = value o.left; right = value o.right }
-
--- the result of a sum
-abbrev pub sum_result : {N : Type 0} → (N → Rational) → Result N (Stop N) → Result Rational (Stop Rational)
-sum_result value (Ok s) = Ok (value s)
-sum_result value (Err o) = Err (overflow_of value o)
 
 abbrev pub dual_fault : {N : Type 0} → (N → Rational) → DualFault N → DualFault Rational
 dual_fault value (dual.NegativeRow i) = dual.NegativeRow i
@@ -61,17 +60,18 @@ primal_fault value (primal.NegativeColumn j) = primal.NegativeColumn j
 primal_fault value (primal.Row i) = primal.Row i
 primal_fault value (primal.Overflow o) = primal.Overflow (overflow_of value o)
 
+-- the result of a sum
+abbrev pub sum_result : {N : Type 0} → (N → Rational) → Result N (Stop N) → Result Rational (Stop Rational)
+sum_result value r = result_map_both value (overflow_of value) r
+
 -- the result of a check of a dual answer
 abbrev pub dual_result : {N : Type 0} → (N → Rational) → Result N (DualFault N) → Result Rational (DualFault Rational)
-dual_result value (Ok v) = Ok (value v)
-dual_result value (Err f) = Err (dual_fault value f)
+dual_result value r = result_map_both value (dual_fault value) r
 
 -- the result of a check of a Farkas answer
 abbrev pub farkas_result : {N : Type 0} → (N → Rational) → Result (Unit {0}) (FarkasFault N) → Result (Unit {0}) (FarkasFault Rational)
-farkas_result value (Ok u) = Ok u
-farkas_result value (Err f) = Err (farkas_fault value f)
+farkas_result value r = result_map_both (λ u. u) (farkas_fault value) r
 
 -- the result of a check of a point
 abbrev pub primal_result : {N : Type 0} → (N → Rational) → Result N (PrimalFault N) → Result Rational (PrimalFault Rational)
-primal_result value (Ok v) = Ok (value v)
-primal_result value (Err f) = Err (primal_fault value f)
+primal_result value r = result_map_both value (primal_fault value) r

@@ -6,7 +6,7 @@ use Rattle.npp_lp.specs.declared.faults.PrimalFault.{PrimalFault}
 use Rattle.npp_lp.specs.declared.faults.PrimalFault.TheVariants.{NegativeColumn, Row, Overflow}
 use Rattle.npp_lp.specs.Verdict.{first_below, sum_fault, unless}
 use Rattle.npp_lp.specs.Programs.{LinearProgram, at, row_of}
-use Rattle.npp_lp.specs.Checked.{checked_row, checked_goal}
+use Rattle.npp_lp.specs.Checked.{checked_terms, checked_goal}
 
 -- the number of column j is below 0
 abbrev pub column_fault : List Rational → ℕ → Option (PrimalFault Rational)
@@ -14,7 +14,7 @@ column_fault x j = if is_less (at x j) zero_ℚ then Some (NegativeColumn j) els
 
 -- the sum of row i does not fit, or is above its right side
 abbrev pub row_fault : ℕ → LinearProgram → List Rational → ℕ → Option (PrimalFault Rational)
-row_fault m p x i = sum_fault Overflow (λ s. if is_less (row_of p i).right s then Some (Row i) else None) (checked_row m (row_of p i) x)
+row_fault m p x i = sum_fault Overflow (λ s. if is_less (row_of p i).right s then Some (Row i) else None) (checked_terms m (row_of p i).terms x)
 
 -- the goal, or that its sum does not fit
 abbrev pub goal_verdict : Result Rational (Stop Rational) → Result Rational (PrimalFault Rational)

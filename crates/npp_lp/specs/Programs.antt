@@ -32,24 +32,24 @@ no_row = record { terms = []; right = zero_ℚ }
 abbrev pub row_of : LinearProgram → ℕ → Row
 row_of p i = slice_index_or p.rows i no_row
 
--- the terms stand in strictly rising columns, each a column of the program, and none is 0
-pub record IsRow (columns : ℕ) (r : Row) : Type 0 where
-  pub rising : AllPairs (λ s t. s.column < t.column) r.terms
-  pub in_range : All (λ t. t.column < columns) r.terms
-  pub nonzero : All (λ t. t.value ≢ zero_ℚ) r.terms
+-- terms over so many columns: they stand in strictly rising columns, and none is 0
+pub record AreTerms (columns : ℕ) (terms : List Term) : Type 0 where
+  pub rising : AllPairs (λ s t. s.column < t.column) terms
+  pub in_range : All (λ t. t.column < columns) terms
+  pub nonzero : All (λ t. t.value ≢ zero_ℚ) terms
 
 -- its rows are over its columns, and so is its goal
 pub record IsLinearProgram (p : LinearProgram) : Type 0 where
-  pub rows : All (IsRow p.columns) p.rows
+  pub rows : All (λ r. AreTerms p.columns r.terms) p.rows
   pub goal : length p.goal ≡ p.columns
 
 -- the sum of the first n products, in order
 abbrev pub product_sum : ℕ → (ℕ → Rational) → (ℕ → Rational) → Rational
 product_sum n a b = sum_to n (λ i. a i *ℚ b i)
 
--- the left side of a row at a point
-abbrev pub row_at : Row → List Rational → Rational
-row_at r x = sum_by (λ t. t.value *ℚ at x t.column) r.terms
+-- the sum of the terms at a point
+abbrev pub terms_at : List Term → List Rational → Rational
+terms_at terms x = sum_by (λ t. t.value *ℚ at x t.column) terms
 
 -- the goal at a point
 abbrev pub goal_at : LinearProgram → List Rational → Rational
@@ -63,7 +63,7 @@ AreNotNegative xs = All (λ q. zero_ℚ ≤ℚ q) xs
 pub record IsPoint (p : LinearProgram) (x : List Rational) : Type 0 where
   pub size : length x ≡ p.columns
   pub not_negative : AreNotNegative x
-  pub rows : All (λ r. row_at r x ≤ℚ r.right) p.rows
+  pub rows : All (λ r. terms_at r.terms x ≤ℚ r.right) p.rows
 
 -- no point has a goal above v
 abbrev pub IsProgramBound : LinearProgram → Rational → Type 0
@@ -82,5 +82,5 @@ pub record IsOptimum (p : LinearProgram) (v : Rational) : Type 0 where
 pub record IsRay (p : LinearProgram) (d : List Rational) : Type 0 where
   pub size : length d ≡ p.columns
   pub not_negative : AreNotNegative d
-  pub rows : All (λ r. row_at r d ≤ℚ zero_ℚ) p.rows
+  pub rows : All (λ r. terms_at r.terms d ≤ℚ zero_ℚ) p.rows
   pub goal : zero_ℚ <ℚ goal_at p d

@@ -1,6 +1,6 @@
 -- Sums of products at a width: what they give, or the first operation that does not fit.
 use Rattle.std.specs.Prelude.{ℕ, Option, Some, None, Result, Ok, if◌then◌else◌}
-use Rattle.npp_frac.specs.Rational.{Rational, ◌*ℚ◌}
+use Rattle.npp_frac.specs.Rational.{Rational, ◌+ℚ◌, ◌*ℚ◌}
 use Rattle.npp_frac.specs.Fits.{fits_add, fits_mul}
 use Rattle.npp_frac.specs.declared.refusal.Op.TheVariants.{Add, Mul}
 use Rattle.npp_frac.specs.declared.refusal.Overflow.{Overflow}
@@ -13,6 +13,10 @@ joining_overflow m sum a b =
     if fits_mul m a b
     then (if fits_add m sum (a *ℚ b) then None else Some (record { op = Add; left = sum; right = a *ℚ b }))
     else Some (record { op = Mul; left = a; right = b })
+
+-- the sum with the product added to it, or the operation that does not fit
+unfoldable pub joined_sum : ℕ → Rational → Rational → Rational → Result Rational (Overflow Rational)
+joined_sum m sum a b = unless (joining_overflow m sum a b) (Ok (sum +ℚ a *ℚ b))
 
 -- the first such operation where a sum of n products is formed, begun at 0 and in order
 abbrev pub sum_overflow : ℕ → ℕ → (ℕ → Rational) → (ℕ → Rational) → Option (Overflow Rational)

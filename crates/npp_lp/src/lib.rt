@@ -2,7 +2,9 @@
 #![tactic(auto)]
 
 mod faults;
+mod numbers;
 mod program;
+mod sums;
 
 pub use faults::{DualFault, FarkasFault, PrimalFault};
 pub use program::{Entry, Program};
