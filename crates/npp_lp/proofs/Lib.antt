@@ -1,1 +1,7 @@
+pub mod Adding
+pub mod Coefficients
+pub mod First
 pub mod Joining
+pub mod Lookups
+pub mod Signs
+pub mod Zeros

@@ -1,16 +1,12 @@
 -- What a check of a Farkas answer gives, at a width.
-use Rattle.std.specs.Prelude.{ℕ, List, length, Option, Some, None, Result, Ok, Err, if◌then◌else◌}
+use Rattle.std.specs.Prelude.{ℕ, List, Option, Some, None, Result, Ok, Err, if◌then◌else◌, option_map}
 use Rattle.npp_frac.specs.Rational.{Rational, zero_ℚ, is_less}
 use Rattle.npp_frac.specs.declared.refusal.Overflow.{Overflow as Stop}
 use Rattle.npp_lp.specs.declared.faults.FarkasFault.{FarkasFault}
 use Rattle.npp_lp.specs.declared.faults.FarkasFault.TheVariants.{NegativeRow, Column, NotBelowZero, Overflow}
-use Rattle.npp_lp.specs.Verdict.{first_below, sum_fault, unless}
+use Rattle.npp_lp.specs.Verdict.{first_below, first_negative, sum_fault, unless}
 use Rattle.npp_lp.specs.Programs.{LinearProgram, at}
 use Rattle.npp_lp.specs.Checked.{checked_column, checked_right}
-
--- the multiplier of row i is below 0
-abbrev pub row_fault : List Rational → ℕ → Option (FarkasFault Rational)
-row_fault y i = if is_less (at y i) zero_ℚ then Some (NegativeRow i) else None
 
 -- the sum of column j does not fit, or is below 0
 abbrev pub column_fault : ℕ → LinearProgram → List Rational → ℕ → Option (FarkasFault Rational)
@@ -24,6 +20,6 @@ value_verdict (Err o) = Err (Overflow o)
 -- the rows are judged first, then the columns, each in order, and last the value
 unfoldable pub farkas_verdict : ℕ → LinearProgram → List Rational → Result (Unit {0}) (FarkasFault Rational)
 farkas_verdict m p y =
-    unless (first_below (length p.rows) (row_fault y))
+    unless (option_map NegativeRow (first_negative y))
     (unless (first_below p.columns (column_fault m p y))
     (value_verdict (checked_right m p y)))

@@ -1,16 +1,12 @@
 -- What a check of a point gives, at a width.
-use Rattle.std.specs.Prelude.{ℕ, List, length, Option, Some, None, Result, Ok, Err, if◌then◌else◌}
+use Rattle.std.specs.Prelude.{ℕ, List, length, Option, Some, None, Result, Ok, Err, if◌then◌else◌, option_map}
 use Rattle.npp_frac.specs.Rational.{Rational, zero_ℚ, is_less}
 use Rattle.npp_frac.specs.declared.refusal.Overflow.{Overflow as Stop}
 use Rattle.npp_lp.specs.declared.faults.PrimalFault.{PrimalFault}
 use Rattle.npp_lp.specs.declared.faults.PrimalFault.TheVariants.{NegativeColumn, Row, Overflow}
-use Rattle.npp_lp.specs.Verdict.{first_below, sum_fault, unless}
+use Rattle.npp_lp.specs.Verdict.{first_below, first_negative, sum_fault, unless}
 use Rattle.npp_lp.specs.Programs.{LinearProgram, at, row_of}
 use Rattle.npp_lp.specs.Checked.{checked_terms, checked_goal}
-
--- the number of column j is below 0
-abbrev pub column_fault : List Rational → ℕ → Option (PrimalFault Rational)
-column_fault x j = if is_less (at x j) zero_ℚ then Some (NegativeColumn j) else None
 
 -- the sum of row i does not fit, or is above its right side
 abbrev pub row_fault : ℕ → LinearProgram → List Rational → ℕ → Option (PrimalFault Rational)
@@ -24,6 +20,6 @@ goal_verdict (Err o) = Err (Overflow o)
 -- the columns are judged first, then the rows, each in order, and last the goal
 unfoldable pub primal_verdict : ℕ → LinearProgram → List Rational → Result Rational (PrimalFault Rational)
 primal_verdict m p x =
-    unless (first_below p.columns (column_fault x))
+    unless (option_map NegativeColumn (first_negative x))
     (unless (first_below (length p.rows) (row_fault m p x))
     (goal_verdict (checked_goal m p x)))

@@ -1,7 +1,8 @@
 // Tests of numbers.
 
-ghost use Rattle.std.specs.Prelude.{◌≡◌, ◌↔◌, IsTrue};
+ghost use Rattle.std.specs.Prelude.{◌≡◌, ◌↔◌, ◌<◌, ◌^◌, IsTrue, length, map};
 ghost use Rattle.npp_frac.specs.Rational.{zero_ℚ, is_less};
+ghost use Rattle.npp_lp.specs.Verdict.{first_negative};
 
 use npp_frac::Exact;
 
@@ -29,7 +30,7 @@ pub fn is_below<N: Exact>(first: N, second: N) -> bool
 /// The place of the first number that is below 0.
 pub fn first_negative<N: Exact>(numbers: &[N]) -> Option<u32>
     requires { length numbers.now < 2 ^ 31 }
-    ensures { first_below (length numbers.now) (negative_place (map N.rational numbers.now)) ≡ result }
+    ensures { result ≡ first_negative (map N.rational numbers.now) }
 {
     for (place, number) in numbers.iter().enumerate() {
         if is_negative(*number) {
