@@ -1,6 +1,5 @@
 pub mod Adding
 pub mod Coefficients
-pub mod First
 pub mod Joining
 pub mod Lookups
 pub mod Signs

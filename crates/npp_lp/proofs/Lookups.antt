@@ -22,6 +22,9 @@ module _ {N : Type 0} (value : N → Rational) where
   pub term_at : (es : List (Entry N)) (k : ℕ) (e : Entry N) → k < length es → e ≡ get_or es k e → get_or (terms_of value es) k no_term ≡ term_of value e
   term_at es k e h is = get_or-map (term_of value) es k e no_term h ∙ ap (term_of value) (sym is)
 
+  pub length-terms_of : (es : List (Entry N)) → length (terms_of value es) ≡ length es
+  length-terms_of es = length-map es (term_of value)
+
   pub length-rows_of : (rows : List (Vec (Entry N) Global)) (right : List N) → length right ≡ length rows → length (rows_of value rows right) ≡ length rows
   length-rows_of [] right h = refl
   length-rows_of (r ∷ rs) [] h = absurd (omega arith)
@@ -44,14 +47,14 @@ module _ {N : Type 0} (value : N → Rational) where
   -- the entries of a row rise as its terms do, and are in range
   pub rise_of_terms : (es : List (Entry N)) → AllPairs (λ s t. s.column < t.column) (terms_of value es) → AllPairs (λ s t. s.column < t.column) es
   rise_of_terms es h i j d l k =
-      let within : j < length (terms_of value es) = omega (arith, length-map es (term_of value)) in
+      let within : j < length (terms_of value es) = omega (arith, length-terms_of es) in
       let low : get_or (terms_of value es) i (term_of value d) ≡ term_of value (get_or es i d) = get_or-map (term_of value) es i d (term_of value d) (omega arith) in
       let high : get_or (terms_of value es) j (term_of value d) ≡ term_of value (get_or es j d) = get_or-map (term_of value) es j d (term_of value d) k in
       rw (low, high) at (h i j (term_of value d) l within)
 
   pub in_range_of_terms : (n : ℕ) (es : List (Entry N)) → All (λ t. t.column < n) (terms_of value es) → All (λ t. t.column < n) es
   in_range_of_terms n es h k d l =
-      let within : k < length (terms_of value es) = omega (arith, length-map es (term_of value)) in
+      let within : k < length (terms_of value es) = omega (arith, length-terms_of es) in
       rw (get_or-map (term_of value) es k d (term_of value d) l) at (h k (term_of value d) within)
 
   -- each row of a program has terms
@@ -59,3 +62,7 @@ module _ {N : Type 0} (value : N → Rational) where
   row_terms p i r h l is =
       let within : i < length (rows_of value p.rows.items p.right.items) = omega (arith, length-rows_of p.rows.items p.right.items h.right) in
       subst (AreTerms p.columns) (terms_of_row p.rows.items p.right.items i r h.right l is) (h.rows i no_row within)
+
+-- an entry in range
+pub in_range_at : {N : Type 0} → (n : ℕ) (es : List (Entry N)) (k : ℕ) (e : Entry N) → All (λ t. t.column < n) es → k < length es → e ≡ get_or es k e → e.column < n
+in_range_at {N} n es k e h l is = let P : Entry N → Type 0 = λ t. t.column < n in subst P (sym is) (h k e l)

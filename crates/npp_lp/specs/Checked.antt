@@ -1,5 +1,5 @@
 -- The sums of a program at a width: begun at 0, in row order for a column, in column order for a row and for the goal.
-use Rattle.std.specs.Prelude.{ℕ, List, length, slice_index_or, Result}
+use Rattle.std.specs.Prelude.{ℕ, List, length, slice_index_or, Result, IsOk, ◌<◌}
 use Rattle.npp_frac.specs.Rational.{Rational, zero_ℚ}
 use Rattle.npp_frac.specs.declared.refusal.Overflow.{Overflow}
 use Rattle.npp_lp.specs.Programs.{Term, LinearProgram, at, row_of}
@@ -26,3 +26,8 @@ checked_terms m terms x =
 -- the goal at a point
 abbrev pub checked_goal : ℕ → LinearProgram → List Rational → Result Rational (Overflow Rational)
 checked_goal m p x = checked_sum m p.columns (at p.goal) (at x)
+
+-- the sums by which multipliers are judged are formed: that of each column, and that of the right sides
+pub record MultiplierSumsFit (m : ℕ) (p : LinearProgram) (y : List Rational) : Type 0 where
+  pub columns : (j : ℕ) → j < p.columns → IsOk (checked_column m p y j)
+  pub right : IsOk (checked_right m p y)

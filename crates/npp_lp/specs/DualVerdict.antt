@@ -13,13 +13,13 @@ abbrev pub column_fault : ℕ → LinearProgram → List Rational → ℕ → Op
 column_fault m p y j = sum_fault Overflow (λ s. if is_less s (at p.goal j) then Some (Column j) else None) (checked_column m p y j)
 
 -- the value of the right sides, or that their sum does not fit
-abbrev pub dual_value : Result Rational (Stop Rational) → Result Rational (DualFault Rational)
-dual_value (Ok v) = Ok v
-dual_value (Err o) = Err (Overflow o)
+abbrev pub value_verdict : Result Rational (Stop Rational) → Result Rational (DualFault Rational)
+value_verdict (Ok v) = Ok v
+value_verdict (Err o) = Err (Overflow o)
 
 -- the rows are judged first, then the columns, each in order, and last the value
 unfoldable pub dual_verdict : ℕ → LinearProgram → List Rational → Result Rational (DualFault Rational)
 dual_verdict m p y =
     unless (option_map NegativeRow (first_negative y))
     (unless (first_below p.columns (column_fault m p y))
-    (dual_value (checked_right m p y)))
+    (value_verdict (checked_right m p y)))

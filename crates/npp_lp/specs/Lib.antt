@@ -2,9 +2,12 @@ pub mod Programs
 pub mod Duals
 pub mod DualLaws
 pub mod Verdict
+pub mod VerdictLaws
 pub mod Sums
+pub mod SumLaws
 pub mod Checked
 pub mod DualVerdict
 pub mod FarkasVerdict
 pub mod PrimalVerdict
+pub mod AnswerLaws
 pub mod Meaning

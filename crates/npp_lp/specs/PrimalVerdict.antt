@@ -13,13 +13,13 @@ abbrev pub row_fault : ℕ → LinearProgram → List Rational → ℕ → Optio
 row_fault m p x i = sum_fault Overflow (λ s. if is_less (row_of p i).right s then Some (Row i) else None) (checked_terms m (row_of p i).terms x)
 
 -- the goal, or that its sum does not fit
-abbrev pub goal_verdict : Result Rational (Stop Rational) → Result Rational (PrimalFault Rational)
-goal_verdict (Ok v) = Ok v
-goal_verdict (Err o) = Err (Overflow o)
+abbrev pub value_verdict : Result Rational (Stop Rational) → Result Rational (PrimalFault Rational)
+value_verdict (Ok v) = Ok v
+value_verdict (Err o) = Err (Overflow o)
 
 -- the columns are judged first, then the rows, each in order, and last the goal
 unfoldable pub primal_verdict : ℕ → LinearProgram → List Rational → Result Rational (PrimalFault Rational)
 primal_verdict m p x =
     unless (option_map NegativeColumn (first_negative x))
     (unless (first_below (length p.rows) (row_fault m p x))
-    (goal_verdict (checked_goal m p x)))
+    (value_verdict (checked_goal m p x)))

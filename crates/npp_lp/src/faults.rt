@@ -1,5 +1,7 @@
 // Why an answer of a linear program is refused.
 
+ghost use Rattle.std.specs.Prelude.{◌≡◌};
+
 use npp_frac::Overflow;
 
 /// Why multipliers are no dual answer of a program: the first fault, rows before columns before the value.
@@ -35,4 +37,34 @@ pub enum PrimalFault<N> {
     Row(u32),
     /// An operation does not fit the width, in the sum of the row or of the goal that would be judged there.
     Overflow(Overflow<N>),
+}
+
+impl<N> From<Overflow<N>> for DualFault<N> {
+    ghost use Rattle.npp_lp.specs.declared.faults.DualFault.TheVariants.{Overflow};
+
+    ghost from_gives = { λ overflow fault. fault ≡ Overflow overflow };
+
+    fn from(overflow: Overflow<N>) -> Self {
+        DualFault::Overflow(overflow)
+    }
+}
+
+impl<N> From<Overflow<N>> for FarkasFault<N> {
+    ghost use Rattle.npp_lp.specs.declared.faults.FarkasFault.TheVariants.{Overflow};
+
+    ghost from_gives = { λ overflow fault. fault ≡ Overflow overflow };
+
+    fn from(overflow: Overflow<N>) -> Self {
+        FarkasFault::Overflow(overflow)
+    }
+}
+
+impl<N> From<Overflow<N>> for PrimalFault<N> {
+    ghost use Rattle.npp_lp.specs.declared.faults.PrimalFault.TheVariants.{Overflow};
+
+    ghost from_gives = { λ overflow fault. fault ≡ Overflow overflow };
+
+    fn from(overflow: Overflow<N>) -> Self {
+        PrimalFault::Overflow(overflow)
+    }
 }

@@ -3,7 +3,7 @@ use Rattle.std.specs.Prelude.{if◌then◌else◌}
 use Rattle.std.proofs.lemmas.List.{length-map}
 use Rattle.npp_frac.specs.Rational.{zero_ℚ, is_less}
 use Rattle.npp_lp.specs.Programs.{at}
-use Rattle.npp_lp.proofs.First.{first_below_found}
+use Rattle.npp_lp.specs.VerdictLaws.{first_below_found}
 use Rattle.npp_lp.proofs.Lookups.{at-map}
 use Rattle.npp_lp.proofs.numbers.first_negative.Goals as goal
 
