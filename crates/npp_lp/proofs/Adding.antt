@@ -1,10 +1,10 @@
 -- The steps of a checked sum, at the numbers that the code reads.
 use Rattle.std.proofs.Common.{◌≡◌, ℕ, ◌+◌, ◌<◌, Result, Ok, Err, IsErrAnd, sym, ◌∙◌, ap}
+use Rattle.std.specs.Result.{result_map_both}
 use Rattle.npp_frac.specs.Rational.{Rational, zero_ℚ}
 use Rattle.npp_frac.specs.declared.refusal.Overflow.{Overflow}
 use Rattle.npp_lp.specs.Sums.{joined_sum, checked_sum}
 use Rattle.npp_lp.specs.SumLaws.{checked_sum_none, checked_sum_more, checked_sum_stops}
-use Rattle.npp_lp.specs.Meaning.{overflow_of, sum_result}
 
 module _ (m : ℕ) (a b : ℕ → Rational) where
   pub checked_sum_begins : (s : Rational) → s ≡ zero_ℚ → checked_sum m 0 a b ≡ Ok s
@@ -17,6 +17,6 @@ module _ (m : ℕ) (a b : ℕ → Rational) where
   checked_sum_ends n i s x y o h left right e j = checked_sum_stops m a b n i s o h e (rw (left, right) (sym j))
 
 -- an error that `?` hands on
-pub handed_on : {N : Type 0} → (value : N → Rational) (r : Result N (Overflow N)) (o : Overflow N) (total : Result Rational (Overflow Rational)) → IsErrAnd r (λ f. f ≡ o) → total ≡ Err (overflow_of value o) → sum_result value r ≡ total
-handed_on value (Ok s) o total is e = absurd is
-handed_on value (Err f) o total is e = ap (λ t. Err (overflow_of value t)) is ∙ sym e
+pub handed_on : {T U F G : Type 0} → (value : T → U) (fault : F → G) (r : Result T F) (e : F) (total : Result U G) → IsErrAnd r (λ f. f ≡ e) → total ≡ Err (fault e) → result_map_both value fault r ≡ total
+handed_on value fault (Ok s) e total is t = absurd is
+handed_on value fault (Err f) e total is t = ap (λ x. Err (fault x)) is ∙ sym t

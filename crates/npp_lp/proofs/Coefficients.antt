@@ -1,9 +1,9 @@
 -- The coefficient of a row in a column, by a search in its entries.
-use Rattle.std.proofs.Common.{◌≡◌, ◌≢◌, ℕ, zero, suc, ◌+◌, ◌<◌, ◌≤◌, List, [], ◌∷◌, length, get_or, Result, Ok, Err, IfOk, IfErr, refl, sym, ◌∙◌, ap, ap₂, arith, inl, inr, eq-or-lt_of_le, Less, Equal, Greater}
+use Rattle.std.proofs.Common.{◌≡◌, ◌≢◌, ℕ, zero, suc, ◌<◌, List, [], ◌∷◌, length, get_or, refl, sym, ◌∙◌, ap, ap₂, arith, inl, inr, eq-or-lt_of_le, Less, Equal, Greater}
 use Rattle.std.proofs.lemmas.Bool.{cases_lt}
-use Rattle.std.specs.Prelude.{All, MatchResult}
+use Rattle.std.specs.Prelude.{All}
 use Rattle.std.specs.List.{AllPairs, HoldsAt}
-use Rattle.std.specs.List.Sorted.{IsBinarySearchResult, IsPartitionPoint, IsNonDecreasingBy}
+use Rattle.std.specs.List.Sorted.{IsPartitionPoint, IsNonDecreasingBy}
 use Rattle.std.specs.Ordering.{nat_cmp, ordering_index}
 use Rattle.std.proofs.lemmas.Cmp.{ranked}
 use Rattle.std.proofs.lemmas.List.Elements.{All-head, All-tail}
@@ -13,7 +13,7 @@ use Rattle.npp_frac.specs.Ring.{zero-+ℚ, +ℚ-zero}
 use Rattle.npp_frac.specs.Sums.{sum_by, unit, unit_other, unit_same}
 use Rattle.npp_lp.specs.declared.program.Entry.{Entry}
 use Rattle.npp_lp.specs.Duals.{coefficient}
-use Rattle.npp_lp.specs.Meaning.{term_of, terms_of}
+use Rattle.npp_lp.specs.Meaning.{terms_of}
 
 -- the columns rise
 abbrev pub Rise : {N : Type 0} → List (Entry N) → Type 0

@@ -1,5 +1,5 @@
 -- What one step of a checked sum gives.
-use Rattle.std.proofs.Common.{◌≡◌, ℕ, Bool, true, false, Result, Ok, Err, is_ok, IfOk, IfErr, IsErrAnd, refl, sym, ◌∙◌, ap, subst}
+use Rattle.std.proofs.Common.{◌≡◌, ℕ, true, false, Result, Ok, Err, is_ok, IfOk, IfErr, IsErrAnd, refl, sym, ◌∙◌, ap}
 use Rattle.npp_frac.specs.Rational.{Rational, ◌+ℚ◌, ◌*ℚ◌}
 use Rattle.npp_frac.specs.Fits.{fits_add, fits_mul}
 use Rattle.npp_frac.specs.declared.refusal.Op.TheVariants.{Add, Mul}

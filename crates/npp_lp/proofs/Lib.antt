@@ -3,4 +3,5 @@ pub mod Coefficients
 pub mod Joining
 pub mod Lookups
 pub mod Signs
+pub mod Verdicts
 pub mod Zeros

@@ -1,5 +1,5 @@
 -- What a read of the code's lists gives, over the rational numbers.
-use Rattle.std.proofs.Common.{◌≡◌, ℕ, zero, suc, ◌+◌, ◌<◌, List, [], ◌∷◌, length, get_or, map, Vec, refl, sym, ◌∙◌, ap, subst, arith}
+use Rattle.std.proofs.Common.{◌≡◌, ℕ, zero, suc, ◌<◌, List, [], ◌∷◌, length, get_or, map, Vec, refl, sym, ◌∙◌, ap, subst, arith}
 use Rattle.std.specs.Global.{Global}
 use Rattle.std.specs.Prelude.{All}
 use Rattle.std.specs.List.{AllPairs}
@@ -7,9 +7,9 @@ use Rattle.std.proofs.lemmas.List.{get_or-map, length-map}
 use Rattle.npp_frac.specs.Rational.{Rational}
 use Rattle.npp_lp.specs.declared.program.Entry.{Entry}
 use Rattle.npp_lp.specs.declared.program.Program.{Program}
-use Rattle.npp_lp.specs.Programs.{Term, Row, AreTerms, at, row_of, no_row}
+use Rattle.npp_lp.specs.Programs.{AreTerms, at, no_row}
 use Rattle.npp_lp.specs.Checked.{no_term}
-use Rattle.npp_lp.specs.Meaning.{term_of, terms_of, rows_of, linear_program, IsProgram}
+use Rattle.npp_lp.specs.Meaning.{term_of, terms_of, rows_of, IsProgram}
 
 module _ {N : Type 0} (value : N → Rational) where
   -- a number of a vector
@@ -66,3 +66,7 @@ module _ {N : Type 0} (value : N → Rational) where
 -- an entry in range
 pub in_range_at : {N : Type 0} → (n : ℕ) (es : List (Entry N)) (k : ℕ) (e : Entry N) → All (λ t. t.column < n) es → k < length es → e ≡ get_or es k e → e.column < n
 in_range_at {N} n es k e h l is = let P : Entry N → Type 0 = λ t. t.column < n in subst P (sym is) (h k e l)
+
+-- a number of a list that is read through a slice
+pub read_right : {N : Type 0} → (value : N → Rational) (slice xs : List N) (i : ℕ) (x : N) → slice ≡ xs → i < length slice → x ≡ get_or slice i x → at (map value xs) i ≡ value x
+read_right value slice xs i x e h is = subst (λ t. at (map value t) i ≡ value x) e (at-map value slice i x h is)

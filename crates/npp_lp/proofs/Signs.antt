@@ -1,5 +1,5 @@
 -- The sign of a rational number is that of its numerator.
-use Rattle.std.proofs.Common.{◌≡◌, ◌↔◌, ℕ, ◌+◌, ◌*◌, ◌<◌, ◌≤◌, ℤ, pos, negsuc, Bool, cond, true, false, Ordering, Less, Equal, Greater, IsTrue, nat_eq, FitsSigned, to_z, of_z, to_z-of_z, refl, sym, ◌∙◌, ap, subst, arith, eq-eqb, eqb-true}
+use Rattle.std.proofs.Common.{◌≡◌, ◌↔◌, ℕ, ◌+◌, ◌*◌, ◌<◌, ◌≤◌, ℤ, pos, negsuc, Bool, cond, true, false, Less, Equal, Greater, IsTrue, nat_eq, FitsSigned, to_z, of_z, to_z-of_z, refl, sym, ◌∙◌, ap, arith, eqb-true}
 use Rattle.std.specs.Prelude.{int_lt}
 use Rattle.std.specs.Int.{w128}
 use Rattle.std.specs.Ordering.{is_lt}

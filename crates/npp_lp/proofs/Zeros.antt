@@ -1,15 +1,13 @@
 -- A product with 0 fits every width and adds nothing, so a checked sum may pass it over.
-use Rattle.std.proofs.Common.{◌≡◌, ℕ, zero, suc, ◌+◌, ◌*◌, ◌/◌, ◌^◌, ◌<◌, ℤ, pos, negsuc, ◌+ℤ◌, ◌*ℤ◌, nat_abs, true, Ok, refl, sym, ◌∙◌, ap, ap₂, subst, arith, lit<, lt_of_lt_of_le}
-use Rattle.std.specs.Prelude.{int_div}
-use Rattle.std.proofs.Math.Nat.{zero-div, div_self, mul-one, one-dvd, dvd-zero, dvd-mul_left}
+use Rattle.std.proofs.Common.{◌≡◌, ℕ, ◌*◌, ◌/◌, ◌<◌, ℤ, pos, ◌+ℤ◌, ◌*ℤ◌, nat_abs, true, Ok, refl, ◌∙◌, ap, arith, lit<, lt_of_lt_of_le}
+use Rattle.std.proofs.Math.Nat.{zero-div, div_self, mul-one, one-dvd, dvd-zero}
 use Rattle.std.proofs.lemmas.Nat.Gcd.{dvd_refl}
 use Rattle.std.proofs.lemmas.Int.{ints}
-use borrow.Author.Differences.{up, down}
-use Rattle.npp_frac.specs.Gcd.{gcd, gcd_within, gcd_is, gcd_comm}
+use Rattle.npp_frac.specs.Gcd.{gcd, gcd_within, gcd_is}
 use Rattle.npp_frac.specs.Rational.{Rational, whole, ratio, zero_ℚ, ◌+ℚ◌, ◌*ℚ◌}
 use Rattle.npp_frac.specs.Ring.{+ℚ-zero, zero-*ℚ, *ℚ-zero}
 use Rattle.npp_frac.specs.Reduction.{abs_product}
-use Rattle.npp_frac.specs.Fits.{FitsBelow, FitsAdd, FitsMul, IsWidth, limit_of, fits_add, fits_mul}
+use Rattle.npp_frac.specs.Fits.{FitsBelow, FitsAdd, FitsMul, IsWidth, limit_of, fits_mul}
 use Rattle.npp_frac.specs.FitsLaws.{fits_add_yes, fits_mul_yes, limit_at_least}
 use Rattle.npp_lp.specs.Sums.{joined_sum}
 use Rattle.npp_lp.proofs.Joining.{joined_sum_fits}

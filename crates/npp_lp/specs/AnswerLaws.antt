@@ -1,23 +1,20 @@
 -- What the verdicts say of a program.
-use Rattle.std.specs.Prelude.{◌≡◌, ℕ, ◌<◌, Bool, true, false, cond, List, length, slice_index_or, Option, Some, None, Result, Ok, Err, IsOk, All, option_map, refl}
-use Rattle.std.proofs.Common.{sym, ◌∙◌, ap, subst}
+use Rattle.std.specs.Prelude.{◌≡◌, ℕ, Bool, true, false, cond, List, length, slice_index_or, Some, None, Result, Ok, Err, option_map, refl}
+use Rattle.std.proofs.Common.{sym, subst}
 use Rattle.std.proofs.lemmas.List.{get_or_default}
-use Rattle.npp_frac.specs.Rational.{Rational, zero_ℚ, is_less, ◌+ℚ◌, ◌*ℚ◌, ◌≤ℚ◌, ◌<ℚ◌}
-use Rattle.npp_frac.specs.Order.{is_less_yes, is_less_no, is_less_of_<ℚ, is_less_of_≤ℚ}
+use Rattle.npp_frac.specs.Rational.{Rational, zero_ℚ, is_less, ◌≤ℚ◌, ◌<ℚ◌}
+use Rattle.npp_frac.specs.Order.{is_less_yes, is_less_no}
 use Rattle.npp_frac.specs.declared.refusal.Overflow.{Overflow as Stop}
-use Rattle.npp_lp.specs.declared.faults.DualFault.{DualFault}
 use Rattle.npp_lp.specs.declared.faults.DualFault.TheVariants as dual
-use Rattle.npp_lp.specs.declared.faults.FarkasFault.{FarkasFault}
 use Rattle.npp_lp.specs.declared.faults.FarkasFault.TheVariants as farkas
-use Rattle.npp_lp.specs.declared.faults.PrimalFault.{PrimalFault}
 use Rattle.npp_lp.specs.declared.faults.PrimalFault.TheVariants as primal
 use Rattle.npp_lp.specs.Verdict.{first_below, first_negative, unless, sum_fault}
-use Rattle.npp_lp.specs.VerdictLaws.{first_below_none, first_below_clear, unless_parts, option_map_none, cond_none, sum_fault_none, not_negative_of_first, first_of_not_negative}
-use Rattle.npp_lp.specs.Programs.{Row, LinearProgram, at, row_of, no_row, product_sum, terms_at, goal_at, AreNotNegative, IsPoint}
-use Rattle.npp_lp.specs.Duals.{column_sum, right_value, coefficient, IsDualAnswer, IsFarkasAnswer}
+use Rattle.npp_lp.specs.VerdictLaws.{first_below_none, unless_parts, option_map_none, cond_none, sum_fault_none, not_negative_of_first}
+use Rattle.npp_lp.specs.Programs.{Row, LinearProgram, at, row_of, no_row, product_sum, terms_at, goal_at, IsPoint}
+use Rattle.npp_lp.specs.Duals.{coefficient, IsDualAnswer, IsFarkasAnswer}
 use Rattle.npp_lp.specs.Sums.{checked_sum}
 use Rattle.npp_lp.specs.SumLaws.{checked_sum_parts, terms_in_order}
-use Rattle.npp_lp.specs.Checked.{no_term, checked_column, checked_right, checked_terms, checked_goal, MultiplierSumsFit}
+use Rattle.npp_lp.specs.Checked.{no_term, checked_right, checked_goal}
 use Rattle.npp_lp.specs.DualVerdict as dual_check
 use Rattle.npp_lp.specs.FarkasVerdict as farkas_check
 use Rattle.npp_lp.specs.PrimalVerdict as primal_check
@@ -94,10 +91,10 @@ primal_verdict_point m p x v size e =
       size = size;
       not_negative = not_negative_of_first x (option_map_none primal.NegativeColumn (first_negative x) columns.0);
       rows = λ i d l.
-        let here : terms_at (row_of p i).terms x ≤ℚ (row_of p i).right =
-        rw (← terms_in_order (row_of p i).terms x) (at_most_of_fault m (length (row_of p i).terms) (λ k. (slice_index_or (row_of p i).terms k no_term).value) (λ k. at x (slice_index_or (row_of p i).terms k no_term).column) (row_of p i).right primal.Overflow (primal.Row i) (first_below_none (primal_check.row_fault m p x) (length p.rows) i rows.0 l)) in
-        let P : Row → Type 0 = λ r. terms_at r.terms x ≤ℚ r.right in
-        subst P (get_or_default p.rows i no_row d l) here;
+          let here : terms_at (row_of p i).terms x ≤ℚ (row_of p i).right =
+          rw (← terms_in_order (row_of p i).terms x) (at_most_of_fault m (length (row_of p i).terms) (λ k. (slice_index_or (row_of p i).terms k no_term).value) (λ k. at x (slice_index_or (row_of p i).terms k no_term).column) (row_of p i).right primal.Overflow (primal.Row i) (first_below_none (primal_check.row_fault m p x) (length p.rows) i rows.0 l)) in
+          let P : Row → Type 0 = λ r. terms_at r.terms x ≤ℚ r.right in
+          subst P (get_or_default p.rows i no_row d l) here;
     }
 
 -- and its goal is the value

@@ -1,12 +1,12 @@
 -- What multipliers prove: weak duality, and its form where there is no point.
-use Rattle.std.specs.Prelude.{◌≡◌, ℕ, zero, suc, ◌<◌, ◌≤◌, List, [], ◌∷◌, length, slice_index_or, All, refl}
-use Rattle.std.proofs.Common.{arith, ap, ap₂, sym, ◌∙◌, subst}
+use Rattle.std.specs.Prelude.{◌≡◌, ℕ, zero, suc, ◌<◌, ◌≤◌, List, [], ◌∷◌, length, All}
+use Rattle.std.proofs.Common.{arith, ap, ap₂, ◌∙◌}
 use Rattle.std.proofs.lemmas.List.Elements.{All-head, All-tail}
-use Rattle.npp_frac.specs.Rational.{Rational, zero_ℚ, ◌+ℚ◌, ◌*ℚ◌, ◌≤ℚ◌, ◌<ℚ◌}
+use Rattle.npp_frac.specs.Rational.{Rational, zero_ℚ, ◌+ℚ◌, ◌*ℚ◌, ◌≤ℚ◌}
 use Rattle.npp_frac.specs.Ring.{+ℚ-*ℚ, *ℚ_comm, *ℚ_assoc, zero-*ℚ}
 use Rattle.npp_frac.specs.Order.{≤ℚ_refl, ≤ℚ_trans, +ℚ_mono, *ℚ_mono, not-≤ℚ_of_<ℚ}
 use Rattle.npp_frac.specs.Sums.{sum_by, sum_to, sum_to_same, sum_to_mono, sum_to_zero, sum_to-+ℚ, sum_to-*ℚ, unit, sum_to-unit}
-use Rattle.npp_lp.specs.Programs.{Term, LinearProgram, AreTerms, at, row_of, no_row, product_sum, terms_at, goal_at, AreNotNegative, IsPoint, IsProgramBound, IsInfeasible}
+use Rattle.npp_lp.specs.Programs.{Term, LinearProgram, AreTerms, at, row_of, no_row, product_sum, terms_at, AreNotNegative, IsPoint, IsProgramBound, IsInfeasible}
 use Rattle.npp_lp.specs.Duals.{coefficient, column_sum, right_value, IsDualAnswer, IsFarkasAnswer}
 
 -- the terms at a point, column by column
@@ -23,8 +23,8 @@ more_rows : (n i : ℕ) (e : ℕ → ℕ → Rational) (y : ℕ → Rational) (x
 unfolding sum_to
 more_rows n i e y x =
     sum_to_same n (λ j. (product_sum i (λ k. e k j) y +ℚ e i j *ℚ y i) *ℚ x j) (λ j. product_sum i (λ k. e k j) y *ℚ x j +ℚ y i *ℚ (e i j *ℚ x j)) (λ j l.
-      +ℚ-*ℚ (product_sum i (λ k. e k j) y) (e i j *ℚ y i) (x j)
-      ∙ ap (λ t. product_sum i (λ k. e k j) y *ℚ x j +ℚ t) (ap (λ t. t *ℚ x j) (*ℚ_comm (e i j) (y i)) ∙ *ℚ_assoc (y i) (e i j) (x j)))
+    +ℚ-*ℚ (product_sum i (λ k. e k j) y) (e i j *ℚ y i) (x j)
+    ∙ ap (λ t. product_sum i (λ k. e k j) y *ℚ x j +ℚ t) (ap (λ t. t *ℚ x j) (*ℚ_comm (e i j) (y i)) ∙ *ℚ_assoc (y i) (e i j) (x j)))
     ∙ sum_to-+ℚ n (λ j. product_sum i (λ k. e k j) y *ℚ x j) (λ j. y i *ℚ (e i j *ℚ x j))
     ∙ ap (λ t. sum_to n (λ j. product_sum i (λ k. e k j) y *ℚ x j) +ℚ t) (sum_to-*ℚ n (y i) (λ j. e i j *ℚ x j))
 
@@ -51,7 +51,7 @@ goals_at_most : (p : LinearProgram) (goal : ℕ → Rational) (y x : List Ration
 goals_at_most p goal y x rows size positive above point =
     ≤ℚ_trans
     (sum_to_mono p.columns (λ j. goal j *ℚ at x j) (λ j. column_sum p y j *ℚ at x j) (λ j l.
-      rw (*ℚ_comm (goal j) (at x j), *ℚ_comm (column_sum p y j) (at x j)) (*ℚ_mono (point.not_negative j zero_ℚ (rw point.size l)) (above j l))))
+    rw (*ℚ_comm (goal j) (at x j), *ℚ_comm (column_sum p y j) (at x j)) (*ℚ_mono (point.not_negative j zero_ℚ (rw point.size l)) (above j l))))
     (columns_at_most p y x rows size positive point)
 
 -- weak duality: no point has a goal above the value of a dual answer

@@ -1,6 +1,6 @@
 -- What a check of a dual answer gives, at a width.
 use Rattle.std.specs.Prelude.{ℕ, List, Option, Some, None, Result, Ok, Err, if◌then◌else◌, option_map}
-use Rattle.npp_frac.specs.Rational.{Rational, zero_ℚ, is_less}
+use Rattle.npp_frac.specs.Rational.{Rational, is_less}
 use Rattle.npp_frac.specs.declared.refusal.Overflow.{Overflow as Stop}
 use Rattle.npp_lp.specs.declared.faults.DualFault.{DualFault}
 use Rattle.npp_lp.specs.declared.faults.DualFault.TheVariants.{NegativeRow, Column, Overflow}

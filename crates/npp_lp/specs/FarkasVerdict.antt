@@ -5,7 +5,7 @@ use Rattle.npp_frac.specs.declared.refusal.Overflow.{Overflow as Stop}
 use Rattle.npp_lp.specs.declared.faults.FarkasFault.{FarkasFault}
 use Rattle.npp_lp.specs.declared.faults.FarkasFault.TheVariants.{NegativeRow, Column, NotBelowZero, Overflow}
 use Rattle.npp_lp.specs.Verdict.{first_below, first_negative, sum_fault, unless}
-use Rattle.npp_lp.specs.Programs.{LinearProgram, at}
+use Rattle.npp_lp.specs.Programs.{LinearProgram}
 use Rattle.npp_lp.specs.Checked.{checked_column, checked_right}
 
 -- the sum of column j does not fit, or is below 0

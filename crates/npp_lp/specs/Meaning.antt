@@ -1,5 +1,5 @@
 -- What the programs and answers of the code stand for, over the rational numbers. `value` says what a number stands for.
-use Rattle.std.specs.Prelude.{◌≡◌, ℕ, ◌+◌, ◌^◌, ◌<◌, List, [], ◌∷◌, length, map, All, Vec, Result}
+use Rattle.std.specs.Prelude.{◌≡◌, ◌+◌, ◌^◌, ◌<◌, List, [], ◌∷◌, length, map, All, Vec, Result}
 use Rattle.std.specs.Result.{result_map_both}
 use Rattle.std.specs.Global.{Global}
 use Rattle.npp_frac.specs.Rational.{Rational}

@@ -1,11 +1,11 @@
 -- What a check of a point gives, at a width.
 use Rattle.std.specs.Prelude.{ℕ, List, length, Option, Some, None, Result, Ok, Err, if◌then◌else◌, option_map}
-use Rattle.npp_frac.specs.Rational.{Rational, zero_ℚ, is_less}
+use Rattle.npp_frac.specs.Rational.{Rational, is_less}
 use Rattle.npp_frac.specs.declared.refusal.Overflow.{Overflow as Stop}
 use Rattle.npp_lp.specs.declared.faults.PrimalFault.{PrimalFault}
 use Rattle.npp_lp.specs.declared.faults.PrimalFault.TheVariants.{NegativeColumn, Row, Overflow}
 use Rattle.npp_lp.specs.Verdict.{first_below, first_negative, sum_fault, unless}
-use Rattle.npp_lp.specs.Programs.{LinearProgram, at, row_of}
+use Rattle.npp_lp.specs.Programs.{LinearProgram, row_of}
 use Rattle.npp_lp.specs.Checked.{checked_terms, checked_goal}
 
 -- the sum of row i does not fit, or is above its right side

@@ -1,11 +1,10 @@
 -- The laws of checked sums.
-use Rattle.std.specs.Prelude.{◌≡◌, ℕ, zero, suc, ◌+◌, ◌<◌, List, [], ◌∷◌, length, slice_index_or, Option, Some, None, Result, Ok, Err, refl}
-use Rattle.std.proofs.Common.{arith, sym, ◌∙◌, ap, add-one}
+use Rattle.std.specs.Prelude.{◌≡◌, ℕ, zero, suc, ◌+◌, ◌<◌, List, [], ◌∷◌, length, slice_index_or, Option, Some, None, Ok, Err, refl}
+use Rattle.std.proofs.Common.{sym, ◌∙◌, ap, add-one}
 use Rattle.npp_frac.specs.Rational.{Rational, zero_ℚ, ◌+ℚ◌, ◌*ℚ◌}
 use Rattle.npp_frac.specs.Ring.{zero-+ℚ, +ℚ-zero, +ℚ_assoc}
 use Rattle.npp_frac.specs.Sums.{sum_to, sum_by}
 use Rattle.npp_frac.specs.declared.refusal.Overflow.{Overflow}
-use Rattle.npp_lp.specs.Verdict.{first_below, unless}
 use Rattle.npp_lp.specs.Programs.{Term, at, product_sum, terms_at}
 use Rattle.npp_lp.specs.Checked.{no_term}
 use Rattle.npp_lp.specs.Sums.{joining_overflow, joined_sum, sum_overflow, checked_sum}

@@ -1,6 +1,6 @@
 -- The laws of first faults.
-use Rattle.std.specs.Prelude.{◌≡◌, ℕ, zero, suc, ◌+◌, ◌<◌, ◌≤◌, Bool, true, false, cond, List, length, slice_index_or, Option, Some, None, Result, Ok, Err, refl, option_map, All}
-use Rattle.std.proofs.Common.{arith, sym, ◌∙◌, ap, subst, add-one, inl, inr, eq-or-lt_of_le, le_of_suc-le-suc}
+use Rattle.std.specs.Prelude.{◌≡◌, ℕ, zero, suc, ◌+◌, ◌<◌, Bool, true, false, cond, List, length, Option, Some, None, Result, Ok, Err, refl, option_map}
+use Rattle.std.proofs.Common.{arith, subst, add-one, inl, inr, eq-or-lt_of_le, le_of_suc-le-suc}
 use Rattle.std.proofs.lemmas.List.{get_or_default}
 use Rattle.npp_frac.specs.Rational.{Rational, zero_ℚ, is_less, ◌≤ℚ◌}
 use Rattle.npp_frac.specs.Order.{is_less_no, is_less_of_≤ℚ}

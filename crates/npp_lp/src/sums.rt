@@ -35,7 +35,12 @@ fn entry_in<N: Exact>(row: &[Entry<N>], column: u32) -> Option<N>
 }
 
 /// The sum with what a row has in a column added to it, times the multiplier of the row.
-fn add_entry<N: Exact>(sum: N, row: &[Entry<N>], column: u32, multiplier: N) -> Result<N, Overflow<N>>
+fn add_entry<N: Exact>(
+    sum: N,
+    row: &[Entry<N>],
+    column: u32,
+    multiplier: N,
+) -> Result<N, Overflow<N>>
     requires { AllPairs (λ s t. s.column < t.column) row.now }
     ensures { sum_result N.rational result
         ≡ joined_sum (limit_of N.WIDTH) (N.rational sum) (coefficient (terms_of N.rational row.now) column) (N.rational multiplier) }

@@ -1,9 +1,8 @@
-use Rattle.std.proofs.Common.{◌≡◌, ◌<◌, ℕ, length, map, ap, sym, ◌∙◌, subst, arith}
+use Rattle.std.proofs.Common.{◌≡◌, ◌<◌, length, map, ap, sym, ◌∙◌, arith}
 use Rattle.npp_frac.specs.Fits.{limit_of}
-use Rattle.npp_frac.specs.Rational.{Rational}
 use Rattle.npp_lp.specs.Programs.{at, row_of}
 use Rattle.npp_lp.specs.Duals.{coefficient}
-use Rattle.npp_lp.specs.Meaning.{terms_of, rows_of, linear_program}
+use Rattle.npp_lp.specs.Meaning.{overflow_of, terms_of, linear_program}
 use Rattle.npp_lp.proofs.Adding.{checked_sum_begins, checked_sum_goes_on, checked_sum_ends, handed_on}
 use Rattle.npp_lp.proofs.Lookups.{at-map, terms_of_row, length-rows_of, row_terms, rise_of_terms}
 use Rattle.npp_lp.proofs.sums.column_sum.Goals as goal
@@ -38,7 +37,7 @@ returns-in_err-sum g c =
     let terms : (row_of p c.loop-row.row).terms ≡ terms_of v c.deref.result.now =
     terms_of_row v c.args.program.now.rows.items c.args.program.now.right.items c.loop-row.row c.index.result.now c.requires.program.right within c.index.ensures ∙ ap (terms_of v) (sym c.deref.ensures.value) in
     let below : c.loop-row.row < length p.rows = rw (length-rows_of v c.args.program.now.rows.items c.args.program.now.right.items c.requires.program.right) within in
-    handed_on v c.from_residual.result _ _ c.from_residual.ensures.1
+    handed_on v (overflow_of v) c.from_residual.result _ _ c.from_residual.ensures.1
     (checked_sum_ends (limit_of g.N.Exact.WIDTH) (λ i. coefficient (row_of p i).terms c.args.column) (at (map v c.args.y.now)) (length p.rows) c.loop-row.row (v c.loop-row.sum) _ _ _ below
     (ap (λ t. coefficient t c.args.column) terms)
     (at-map v c.args.y.now c.loop-row.row c.index-y-row.result c.loop-row-test.true c.index-y-row.is)

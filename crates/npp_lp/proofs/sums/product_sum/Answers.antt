@@ -1,4 +1,4 @@
-use Rattle.std.proofs.Common.{◌≡◌, ◌<◌, length, map, arith}
+use Rattle.std.proofs.Common.{◌<◌, length, map, arith}
 use Rattle.npp_frac.specs.Fits.{limit_of}
 use Rattle.npp_lp.specs.Programs.{at}
 use Rattle.npp_lp.specs.Meaning.{overflow_of}
@@ -22,7 +22,7 @@ pub returns-in_err-sum : goal.returns-in_err-sum
 returns-in_err-sum g c =
     let v = g.N.Exact.rational in
     let within : c.loop-place.place < length c.args.b.now = omega arith in
-    handed_on v c.from_residual.result _ _ c.from_residual.ensures.1
+    handed_on v (overflow_of v) c.from_residual.result _ _ c.from_residual.ensures.1
     (checked_sum_ends (limit_of g.N.Exact.WIDTH) (at (map v c.args.a.now)) (at (map v c.args.b.now)) (length c.args.a.now) c.loop-place.place (v c.loop-place.sum) _ _ _ c.loop-place-test.true
     (at-map v c.args.a.now c.loop-place.place c.index-a-place.result c.loop-place-test.true c.index-a-place.is)
     (at-map v c.args.b.now c.loop-place.place c.index-b-place.result within c.index-b-place.is)

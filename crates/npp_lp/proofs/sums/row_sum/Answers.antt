@@ -1,9 +1,8 @@
-use Rattle.std.proofs.Common.{◌≡◌, ◌<◌, length, get_or, map, ap, sym, subst, ◌∙◌}
+use Rattle.std.proofs.Common.{◌<◌, length, get_or, map, ap, ◌∙◌}
 use Rattle.npp_frac.specs.Fits.{limit_of}
-use Rattle.npp_frac.specs.Rational.{Rational}
 use Rattle.npp_lp.specs.Programs.{at}
 use Rattle.npp_lp.specs.Checked.{no_term}
-use Rattle.npp_lp.specs.Meaning.{terms_of}
+use Rattle.npp_lp.specs.Meaning.{overflow_of, terms_of}
 use Rattle.npp_lp.proofs.Adding.{checked_sum_begins, checked_sum_goes_on, checked_sum_ends, handed_on}
 use Rattle.npp_lp.proofs.Lookups.{at-map, term_at, length-terms_of, in_range_at}
 use Rattle.npp_lp.proofs.sums.row_sum.Goals as goal
@@ -29,7 +28,7 @@ returns-in_err-sum g c =
     let term = term_at v c.args.row.now k c.entry-item.result c.loop-entry-test.true c.entry-item.is in
     let within = in_range_at (length c.args.x.now) c.args.row.now k c.entry-item.result c.requires c.loop-entry-test.true c.entry-item.is in
     let below : k < length (terms_of v c.args.row.now) = rw (length-terms_of v c.args.row.now) c.loop-entry-test.true in
-    handed_on v c.from_residual.result _ _ c.from_residual.ensures.1
+    handed_on v (overflow_of v) c.from_residual.result _ _ c.from_residual.ensures.1
     (checked_sum_ends (limit_of g.N.Exact.WIDTH) (λ k. (get_or (terms_of v c.args.row.now) k no_term).value) (λ k. at (map v c.args.x.now) (get_or (terms_of v c.args.row.now) k no_term).column) (length (terms_of v c.args.row.now)) k (v c.loop-entry.sum) _ _ _ below
     (ap (λ t. t.value) term)
     (ap (λ t. at (map v c.args.x.now) t.column) term ∙ at-map v c.args.x.now c.entry-item.result.column c.index-x-entry.result within c.index-x-entry.is)
