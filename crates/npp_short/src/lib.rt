@@ -9,3 +9,6 @@ mod walk;
 pub use distances::distances_to;
 pub use potentials::Potentials;
 pub use walk::walk_from;
+
+#[cfg(test)]
+mod tests;
