@@ -15,8 +15,7 @@ use Rattle.npp_short.specs.Following.{IsFollowed, IsTight, IsTightFrom}
 use Rattle.npp_net.specs.Ends.{leaving_arcs}
 use Rattle.npp_net.specs.declared.ends.End.TheVariants.{Tail}
 use Rattle.npp_net.proofs.EndLaws.{IsEndAt, leaving_node, leaving_all}
-use Rattle.npp_short.proofs.Next.{within}
-use Rattle.npp_short.proofs.Partial.{same_some}
+use Rattle.npp_short.proofs.Partial.{same_some, within}
 use Rattle.npp_short.proofs.Offering.{no_id}
 
 -- one more arc at the end

@@ -1,6 +1,7 @@
 pub mod Order
+pub mod KeyOrder
 pub mod Offering
-pub mod Next
 pub mod Partial
+pub mod Waiting
 pub mod Nearest
 pub mod Following

@@ -12,8 +12,7 @@ use Rattle.npp_short.specs.Reach.{reach_at, reach_of, through, IsNoFarther, IsNe
 use Rattle.npp_short.specs.Potentials.{ArePotentials, AreDistances}
 use Rattle.npp_short.specs.Settling.{AllDone, is_done}
 use Rattle.npp_short.proofs.Order.{near_trans, through_near}
-use Rattle.npp_short.proofs.Next.{within}
-use Rattle.npp_short.proofs.Partial.{IsPartial, same_some}
+use Rattle.npp_short.proofs.Partial.{IsPartial, same_some, within}
 
 longer : (arcs : List NetArc) (a : ArcId) (walk : List ArcId) (t : Reach)
     → IsNoFarther t (through (arc_at arcs a) (reach_of arcs walk)) → IsNoFarther t (reach_of arcs (a ∷ walk))

@@ -34,13 +34,20 @@ pub record IsPartial (arcs : List NetArc) (with_tolls : Bool) (nodes destination
 pub same_some : {a b : Reach} (o : Option Reach) → o ≡ Some a → o ≡ Some b → a ≡ b
 same_some o p q = cc
 
-done_cases : (done : List Bool) (node u : ℕ) → is_done (set done node true) u ≡ true → (u ≡ node) ⊎ (is_done done u ≡ true)
+-- an entry that is there is in the table
+pub within : (table : List (Option Reach)) (v : ℕ) (r : Reach) → reach_at table v ≡ Some r → v < length table
+within table v r here = elim (cases_lt v (length table)) [
+  | inl lt ↦ lt
+  | inr past ↦ let e : reach_at table v ≡ None = get_or_past table v None past in absurd cc
+]
+
+pub done_cases : (done : List Bool) (node u : ℕ) → is_done (set done node true) u ≡ true → (u ≡ node) ⊎ (is_done done u ≡ true)
 done_cases done node u is = elim (cases_eq u node) [
   | inl e ↦ inl e
   | inr ne ↦ inr (sym (get_or-set_other done node u true false ne) ∙ is)
 ]
 
-waits_still : (done : List Bool) (node v : ℕ) → node < length done → is_done (set done node true) v ≡ false → is_done done v ≡ false
+pub waits_still : (done : List Bool) (node v : ℕ) → node < length done → is_done (set done node true) v ≡ false → is_done done v ≡ false
 waits_still done node v lt is = elim (cases_eq v node) [
   | inl e ↦ let one : is_done (set done node true) v ≡ true = subst (λ (w : ℕ). get_or (set done node true) w false ≡ true) (sym e) (get_or-set_same done node true false lt) in absurd (false≢true (sym is ∙ one))
   | inr ne ↦ sym (get_or-set_other done node v true false ne) ∙ is
@@ -208,35 +215,44 @@ none_done nodes v = elim (cases_lt v nodes) [
 abbrev pub no_way : Reach
 no_way = record { cost = 0; arcs = 0 }
 
-module _ (arcs : List NetArc) (with_tolls : Bool) (nodes destination : ℕ) (lt : destination < nodes) where
-  first_table : List (Option Reach)
-  first_table = set (replicate nodes None) destination (Some no_way)
+-- before any node is settled only the destination has a reach
+abbrev pub first_table : ℕ → ℕ → List (Option Reach)
+first_table nodes destination = set (replicate nodes None) destination (Some no_way)
 
-  there : reach_at first_table destination ≡ Some no_way
-  unfolding first_table
-  there = get_or-set_same (replicate nodes None) destination (Some no_way) None (omega (arith, length-replicate {A = Option Reach} nodes None))
+pub reach_there : (nodes destination : ℕ) → destination < nodes → reach_at (first_table nodes destination) destination ≡ Some no_way
+reach_there nodes destination lt = get_or-set_same (replicate nodes None) destination (Some no_way) None (omega (arith, length-replicate {A = Option Reach} nodes None))
 
-  only : (v : ℕ) (r : Reach) → reach_at first_table v ≡ Some r → (v ≡ destination) × (r.cost ≡ 0) × (r.arcs ≡ 0)
-  unfolding first_table
-  only v r is = elim (cases_eq v destination) [
-    | inl e ↦ let z : no_way ≡ r = same_some (reach_at first_table destination) there (subst (λ (w : ℕ). reach_at first_table w ≡ Some r) e is) in (e, ap (λ (q : Reach). q.cost) (sym z), ap (λ (q : Reach). q.arcs) (sym z))
-    | inr ne ↦ let none : reach_at first_table v ≡ None = get_or-set_other (replicate nodes None) destination v (Some no_way) None ne ∙ none_at nodes v in absurd cc
-  ]
+pub reach_only_there : (nodes destination v : ℕ) (r : Reach) → destination < nodes → reach_at (first_table nodes destination) v ≡ Some r → (v ≡ destination) × (r ≡ no_way)
+reach_only_there nodes destination v r lt is = elim (cases_eq v destination) [
+  | inl e ↦
+      let here = subst (λ (w : ℕ). reach_at (first_table nodes destination) w ≡ Some r) e is in
+      (e, same_some (reach_at (first_table nodes destination) destination) here (reach_there nodes destination lt))
+  | inr ne ↦ let none : reach_at (first_table nodes destination) v ≡ None = get_or-set_other (replicate nodes None) destination v (Some no_way) None ne ∙ none_at nodes v in absurd cc
+]
 
-  partial_first : IsPartial arcs with_tolls nodes destination (set (replicate nodes None) destination (Some no_way)) (replicate nodes false) 0
-  unfolding first_table
-  partial_first = record {
-    size = length-set (replicate nodes None) destination (Some no_way) ∙ length-replicate {A = Option Reach} nodes None;
-    flags = length-replicate nodes false;
-    count = omega (arith, sum_by-replicate (λ (b : Bool). cond b 1 0) nodes false);
-    within = omega arith;
-    attained = λ v r is. let o = only v r is in ([], record { leads = record { path = o.0; usable = tt }; cost = sym o.1; count = sym o.2 });
-    small = λ v r is. let o = only v r is in (omega (arith, o.1), omega (arith, o.2));
-    start = (no_way, there, refl, refl);
-    known = λ v is. absurd (false≢true (sym (none_done nodes v) ∙ is));
-    order = λ u v r q is. absurd (false≢true (sym (none_done nodes u) ∙ is));
-    closed = λ a h lt' may is. absurd (false≢true (sym (none_done nodes (arc_at arcs a).head.0) ∙ is));
-  }
+attained_first : (arcs : List NetArc) (with_tolls : Bool) (v destination : ℕ) (r : Reach) → v ≡ destination → r ≡ no_way → Attains arcs with_tolls v destination r []
+attained_first arcs with_tolls v destination r there none = record {
+  leads = record { path = there; usable = tt };
+  cost = sym (ap (λ (q : Reach). q.cost) none);
+  count = sym (ap (λ (q : Reach). q.arcs) none);
+}
+
+partial_first : (arcs : List NetArc) (with_tolls : Bool) (nodes destination : ℕ) → destination < nodes
+    → IsPartial arcs with_tolls nodes destination (first_table nodes destination) (replicate nodes false) 0
+partial_first arcs with_tolls nodes destination lt = record {
+  size = length-set (replicate nodes None) destination (Some no_way) ∙ length-replicate {A = Option Reach} nodes None;
+  flags = length-replicate nodes false;
+  count = omega (arith, sum_by-replicate (λ (b : Bool). cond b 1 0) nodes false);
+  within = omega arith;
+  attained = λ v r is. let o = reach_only_there nodes destination v r lt is in ([], attained_first arcs with_tolls v destination r o.0 o.1);
+  small = λ v r is.
+      let o = (reach_only_there nodes destination v r lt is).1 in
+      (omega (arith, ap (λ (q : Reach). q.cost) o), omega (arith, ap (λ (q : Reach). q.arcs) o));
+  start = (no_way, reach_there nodes destination lt, refl, refl);
+  known = λ v is. absurd (false≢true (sym (none_done nodes v) ∙ is));
+  order = λ u v r q is. absurd (false≢true (sym (none_done nodes u) ∙ is));
+  closed = λ a h lt' may is. absurd (false≢true (sym (none_done nodes (arc_at arcs a).head.0) ∙ is));
+}
 
 -- before any node is settled
 pub partial_start : (arcs : List NetArc) (with_tolls : Bool) (nodes destination : ℕ) (table : List (Option Reach)) (done : List Bool)
@@ -244,5 +260,5 @@ pub partial_start : (arcs : List NetArc) (with_tolls : Bool) (nodes destination 
     → IsPartial arcs with_tolls nodes destination (set table destination (Some no_way)) done 0
 partial_start arcs with_tolls nodes destination table done lt empty none =
     subst (λ (t : List (Option Reach)). IsPartial arcs with_tolls nodes destination (set t destination (Some no_way)) done 0) (sym empty)
-    (subst (λ (b : List Bool). IsPartial arcs with_tolls nodes destination (set (replicate nodes None) destination (Some no_way)) b 0) (sym none)
+    (subst (λ (b : List Bool). IsPartial arcs with_tolls nodes destination (first_table nodes destination) b 0) (sym none)
     (partial_first arcs with_tolls nodes destination lt))

@@ -3,3 +3,4 @@ pub mod Potentials
 pub mod Shortest
 pub mod Settling
 pub mod Following
+pub mod Keys

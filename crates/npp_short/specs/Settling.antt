@@ -1,5 +1,5 @@
 -- What the table of a search holds while nodes are settled, the nearest first.
-use Rattle.std.specs.Prelude.{◌≡◌, ◌⊎◌, ◌≢◌, ℕ, ◌<◌, Bool, false, List, length, slice_index_or, Option, Some, None}
+use Rattle.std.specs.Prelude.{◌≡◌, ◌⊎◌, ◌≢◌, ℕ, ◌<◌, Bool, false, List, length, slice_index_or, Option, Some, None, All, Contains, true}
 use Rattle.npp_net.specs.declared.types.ArcId.{ArcId}
 use Rattle.npp_net.specs.declared.types.NodeId.{NodeId}
 use Rattle.npp_net.specs.declared.types.NetArc.{NetArc}
@@ -50,19 +50,31 @@ pub record Settles (arcs : List NetArc) (with_tolls : Bool) (node : ℕ) (from :
   pub entries : (v : ℕ) → IsEntryAfter arcs with_tolls node from v (reach_at old v) (reach_at new v)
   pub reached : (a : ArcId) → IsInto arcs with_tolls node a → IsReached from new (arc_at arcs a)
 
--- the nearest node that is not settled
+-- a node that is not settled, with its reach, of which no other such node has a nearer
 pub record IsNext (table : List (Option Reach)) (done : List Bool) (node : ℕ) (r : Reach) : Type 0 where
   pub in_range : node < length table
   pub waits : is_done done node ≡ false
   pub here : reach_at table node ≡ Some r
   pub first : (v : ℕ) (s : Reach) → is_done done v ≡ false → reach_at table v ≡ Some s → IsNoFarther r s
 
--- the candidate is kept, or a nearer one takes its place
-abbrev pub IsNearerOf : Option (NodeId × Reach) → NodeId → Reach → Option (NodeId × Reach) → Type 0
-IsNearerOf None node reach new = new ≡ Some (node, reach)
-IsNearerOf (Some best) node reach new =
-    ((new ≡ Some best) × IsNoFarther best.1 reach) ⊎ ((new ≡ Some (node, reach)) × IsNearer reach best.1)
-
 -- no node is left
 abbrev pub AllDone : List (Option Reach) → List Bool → Type 0
 AllDone table done = (v : ℕ) → v < length table → is_done done v ≡ false → reach_at table v ≡ None
+
+-- a reach of a node is no nearer than its entry
+abbrev pub IsBacked : List (Option Reach) → NodeId × Reach → Type 0
+IsBacked table w = (r : Reach) × (reach_at table w.0.0 ≡ Some r) × IsNoFarther r w.1
+
+-- the queue holds the entry of each node that is not settled
+pub record Awaits (table : List (Option Reach)) (done : List Bool) (queue : List (NodeId × Reach)) : Type 0 where
+  pub listed : (v : NodeId) (r : Reach) → is_done done v.0 ≡ false → reach_at table v.0 ≡ Some r → Contains queue (v, r)
+  pub backed : All (IsBacked table) queue
+
+-- whichever nodes are settled, the queue still holds those that are not
+abbrev pub KeepsWaiting : List (Option Reach) → List (NodeId × Reach) → List (Option Reach) → List (NodeId × Reach) → Type 0
+KeepsWaiting old_table old_queue new_table new_queue = (done : List Bool) → Awaits old_table done old_queue → Awaits new_table done new_queue
+
+-- what is known of a node that was taken from the queue: it is settled, or this is its entry
+abbrev pub IsWaiting : List (Option Reach) → List Bool → ℕ → Option Reach → Type 0
+IsWaiting table done node None = (is_done done node ≡ true) ⊎ (reach_at table node ≡ None)
+IsWaiting table done node (Some r) = (is_done done node ≡ false) × (reach_at table node ≡ Some r)

@@ -1,12 +1,15 @@
 //! The search for the least costs, after Dijkstra (1959): nodes are settled one by one, the nearest first.
+//! A node stays in the queue when it comes nearer, and is passed over once it is settled.
 
-ghost use Rattle.std.specs.Prelude.{◌≡◌, ◌<◌, ◌≤◌, length, IfOk, MatchOption, MatchBool, None, replicate, false};
+ghost use Rattle.std.specs.Prelude.{◌≡◌, ◌<◌, ◌≤◌, length, IfOk, IfSome, OnOk, MatchOption, MatchBool, Some, None, replicate, false, true, slice_set};
 ghost use Rattle.npp_net.specs.Network.{IsNetwork, IsArc, arc_at};
 ghost use Rattle.npp_net.specs.Distance.{IsUsable};
+ghost use Rattle.npp_short.specs.Reach.{reach_at, through};
 ghost use Rattle.npp_short.specs.Potentials.{ArePotentials, AreDistances};
-ghost use Rattle.npp_short.specs.Settling.{Settles, Offers, IsNearerOf, IsNext, AllDone};
+ghost use Rattle.npp_short.specs.Settling.{Settles, Offers, IsNext, AllDone, Awaits, KeepsWaiting, IsWaiting};
 
 use crate::potentials::Potentials;
+use crate::queue::Queue;
 use crate::reach::Reach;
 use npp_net::{ArcId, Instance, Memory, NetArc, NodeId};
 use std::alloc::{AllocError, Global};
@@ -27,7 +30,14 @@ pub fn distances_to(
     let nodes = instance.nodes() as usize;
     let mut table = no_reach(alloc, nodes)?;
     let mut done = none_done(alloc, nodes)?;
-    settle_all(instance, with_tolls, destination, &mut table, &mut done);
+    settle_all(
+        alloc,
+        instance,
+        with_tolls,
+        destination,
+        &mut table,
+        &mut done,
+    )?;
     Ok(Potentials::of_table(table))
 }
 
@@ -45,53 +55,57 @@ fn none_done(alloc: Global, nodes: usize) -> Result<Vec<bool>, AllocError>
 
 /// Settles each node that has a walk to the destination.
 fn settle_all(
+    alloc: Global,
     instance: &Instance,
     with_tolls: bool,
     destination: NodeId,
     table: &mut [Option<Reach>],
     done: &mut [bool],
-)
+) -> Result<(), Memory>
     requires empty { table.old ≡ replicate instance.now.nodes None }
     requires none { done.old ≡ replicate instance.now.nodes false }
     requires limits { IsNetwork instance.now }
     requires within { destination.0 < instance.now.nodes }
-    ensures { ArePotentials instance.now.arcs with_tolls instance.now.nodes destination.0 table.new }
+    ensures { OnOk result (ArePotentials instance.now.arcs with_tolls instance.now.nodes destination.0 table.new) }
 {
-    table[destination.0 as usize] = Some(Reach { cost: 0, arcs: 0 });
+    let start = Reach { cost: 0, arcs: 0 };
+    let mut queue = Queue::new(alloc);
+    queue.push(destination, start)?;
+    table[destination.0 as usize] = Some(start);
     let mut settled = 0u32;
-    while let Some((node, from)) = next_node(table, done) {
-        settle(instance, with_tolls, node, from, table);
+    while let Some((node, from)) = next_node(&mut queue, table, done) {
+        settle(instance, with_tolls, node, from, table, &mut queue)?;
         done[node.0 as usize] = true;
         settled += 1;
     }
+    Ok(())
 }
 
-/// The nearest node that is not settled, with its reach.
-fn next_node(table: &[Option<Reach>], done: &[bool]) -> Option<(NodeId, Reach)>
+/// A nearest node that is not settled, with its reach.
+fn next_node(queue: &mut Queue, table: &[Option<Reach>], done: &[bool]) -> Option<(NodeId, Reach)>
     requires same { length table.now ≡ length done.now }
-    requires few { length table.now ≤ 1000 }
-    ensures { MatchOption result (AllDone table.now done.now) (λ n. IsNext table.now done.now n.0.0 n.1) }
+    requires waiting { Awaits table.now done.now queue.old }
+    ensures next { MatchOption result (AllDone table.now done.now) (λ n. IsNext table.now done.now n.0.0 n.1) }
+    ensures waiting { IfSome result (λ n. Awaits table.now (slice_set done.now n.0.0 true) queue.new) }
 {
-    let mut best: Option<(NodeId, Reach)> = None;
-    for (i, entry) in table.iter().enumerate() {
-        if done[i] {
-            continue;
-        }
-        if let Some(reach) = *entry {
-            best = nearer_of(best, NodeId(i as u32), reach);
+    while let Some((node, _)) = queue.pop() {
+        if let Some(reach) = entry_of(node, table, done) {
+            return Some((node, reach));
         }
     }
-    best
+    None
 }
 
-/// The nearer of the best node so far and this one.
-fn nearer_of(best: Option<(NodeId, Reach)>, node: NodeId, reach: Reach) -> Option<(NodeId, Reach)>
-    ensures { IsNearerOf best node reach result }
+/// The reach of a node that is not settled.
+fn entry_of(node: NodeId, table: &[Option<Reach>], done: &[bool]) -> Option<Reach>
+    requires same { length table.now ≡ length done.now }
+    requires within { node.0 < length table.now }
+    ensures { IsWaiting table.now done.now node.0 result }
 {
-    match best {
-        Some((_, least)) if !reach.is_nearer(least) => best,
-        _ => Some((node, reach)),
+    if done[node.0 as usize] {
+        return None;
     }
+    table[node.0 as usize]
 }
 
 /// Offers its reach through the node to the tail of each arc into the node.
@@ -101,27 +115,52 @@ fn settle(
     node: NodeId,
     from: Reach,
     table: &mut [Option<Reach>],
-)
+    queue: &mut Queue,
+) -> Result<(), Memory>
     requires within { node.0 < instance.now.nodes }
     requires size { length table.old ≡ instance.now.nodes }
     requires cost { from.cost ≤ 1000000000 }
     requires count { from.arcs ≤ 1000 }
-    ensures { Settles instance.now.arcs with_tolls node.0 from table.old table.new }
+    ensures settles { OnOk result (Settles instance.now.arcs with_tolls node.0 from table.old table.new) }
+    ensures waiting { OnOk result (KeepsWaiting table.old queue.old table.new queue.new) }
 {
     for arc in instance.entering(node) {
         let x = arc_at(instance, *arc);
         if is_usable(x, with_tolls) {
-            offer(x, from, table);
+            relax(x, from, table, queue)?;
         }
     }
+    Ok(())
 }
 
-/// Puts the reach through an arc in the place of one that is farther.
-fn offer(x: NetArc, from: Reach, table: &mut [Option<Reach>])
+/// Puts the reach through an arc in the place of one that is farther, and the arc's tail into the queue.
+fn relax(
+    x: NetArc,
+    from: Reach,
+    table: &mut [Option<Reach>],
+    queue: &mut Queue,
+) -> Result<(), Memory>
     requires arc { IsArc (length table.old) x }
     requires cost { from.cost ≤ 1000000000 }
     requires count { from.arcs ≤ 1000 }
-    ensures { Offers x from table.old table.new }
+    ensures offers { OnOk result (Offers x from table.old table.new) }
+    ensures waiting { OnOk result (KeepsWaiting table.old queue.old table.new queue.new) }
+{
+    if let Some(reach) = offer(x, from, table) {
+        queue.push(x.tail, reach)?;
+    }
+    Ok(())
+}
+
+/// Puts the reach through an arc in the place of one that is farther, and gives the reach that was put.
+fn offer(x: NetArc, from: Reach, table: &mut [Option<Reach>]) -> Option<Reach>
+    requires arc { IsArc (length table.old) x }
+    requires cost { from.cost ≤ 1000000000 }
+    requires count { from.arcs ≤ 1000 }
+    ensures offers { Offers x from table.old table.new }
+    ensures put { MatchOption result
+        (table.new ≡ table.old)
+        (λ r. (r ≡ through x from) × (reach_at table.new x.tail.0 ≡ Some r)) }
 {
     let tail = x.tail.0 as usize;
     let reach = Reach {
@@ -129,8 +168,11 @@ fn offer(x: NetArc, from: Reach, table: &mut [Option<Reach>])
         arcs: from.arcs + 1,
     };
     match table[tail] {
-        Some(old) if !reach.is_nearer(old) => {}
-        _ => table[tail] = Some(reach),
+        Some(old) if !reach.is_nearer(old) => None,
+        _ => {
+            table[tail] = Some(reach);
+            Some(reach)
+        }
     }
 }
 

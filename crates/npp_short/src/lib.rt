@@ -3,6 +3,7 @@
 
 mod distances;
 mod potentials;
+mod queue;
 mod reach;
 mod walk;
 
