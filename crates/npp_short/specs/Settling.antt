@@ -1,5 +1,5 @@
 -- What the table of a search holds while nodes are settled, the nearest first.
-use Rattle.std.specs.Prelude.{◌≡◌, ◌⊎◌, ◌≢◌, ℕ, ◌<◌, Bool, false, List, length, slice_index_or, Option, Some, None, All, Contains, true}
+use Rattle.std.specs.Prelude.{◌≡◌, ◌⊎◌, ◌≢◌, ℕ, ◌<◌, Bool, true, false, List, length, slice_index_or, Option, Some, None, All, Contains}
 use Rattle.npp_net.specs.declared.types.ArcId.{ArcId}
 use Rattle.npp_net.specs.declared.types.NodeId.{NodeId}
 use Rattle.npp_net.specs.declared.types.NetArc.{NetArc}

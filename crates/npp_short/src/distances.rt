@@ -41,12 +41,14 @@ pub fn distances_to(
     Ok(Potentials::of_table(table))
 }
 
+/// One entry for each node, with no reach.
 fn no_reach(alloc: Global, nodes: usize) -> Result<Vec<Option<Reach>>, AllocError>
     ensures { IfOk result (λ v. v.items ≡ replicate nodes None) }
 {
     vec![in alloc; None; nodes]
 }
 
+/// One mark for each node, none settled.
 fn none_done(alloc: Global, nodes: usize) -> Result<Vec<bool>, AllocError>
     ensures { IfOk result (λ v. v.items ≡ replicate nodes false) }
 {
@@ -108,7 +110,7 @@ fn entry_of(node: NodeId, table: &[Option<Reach>], done: &[bool]) -> Option<Reac
     table[node.0 as usize]
 }
 
-/// Offers its reach through the node to the tail of each arc into the node.
+/// Relaxes each arc into the node that may be used.
 fn settle(
     instance: &Instance,
     with_tolls: bool,
