@@ -3,7 +3,7 @@ use Prim.Native.Nat.{◌∣◌}
 use Rattle.std.specs.Prelude.{◌≡◌, ℕ, zero, suc, ◌*◌, ◌/◌, ◌%◌, ◌<◌, ◌≤◌, refl}
 use Rattle.std.proofs.Math.Nat.{dvd-mul_left, dvd-mul_right, div-mul_cancel, dvd_of_mul-dvd-mul_right, mul-dvd-mul_right, dvd_trans, pos_of_dvd_of_pos, eq-one_of_dvd-one, one-mul, le_of_dvd, dvd-zero, dvd-mul_right_of_dvd}
 use Rattle.std.specs.Int.{IsGcd}
-use Rattle.std.proofs.Common.{arith, ◌∙◌}
+use Rattle.std.proofs.Common.{arith, subst, sym, ◌∙◌}
 use Rattle.std.proofs.lemmas.Nat.Gcd.{IsGcd-from_zero, IsGcd-from_mod, same_from_IsGcd, IsGcd-swap}
 use Rattle.std.proofs.lemmas.Nat.{mod_below}
 
@@ -108,3 +108,9 @@ coprime_products a b c d ac ad bc bd =
 
 pub gcd-one : (a : ℕ) → gcd a 1 ≡ 1
 gcd-one a = let above : 0 < gcd a 1 = gcd_pos a 1 (omega arith) in omega (arith, above, gcd_le a 1 (omega arith))
+
+pub one-gcd : (b : ℕ) → gcd 1 b ≡ 1
+one-gcd b = gcd_comm 1 b ∙ gcd-one b
+
+pub IsGcd_of_gcd : (a b g : ℕ) → g ≡ gcd a b → IsGcd a b g
+IsGcd_of_gcd a b g e = let P : ℕ → Type 0 = λ t. IsGcd a b t in subst P (sym e) (IsGcd-gcd a b)

@@ -1,4 +1,4 @@
-use Rattle.std.proofs.Common.{rules, ap₂, ◌∙◌, ◌≡◌, ◌*◌, ◌/◌, pos, FitsSigned, to_z-of_z, ◌+ℤ◌, ◌*ℤ◌}
+use Rattle.std.proofs.Common.{rules, ap₂, ◌∙◌, ◌≡◌, ◌*◌, ◌/◌, ◌<◌, arith, pos, FitsSigned, to_z-of_z, ◌+ℤ◌, ◌*ℤ◌}
 use Rattle.std.proofs.Math.Nat.{div-mul_cancel}
 use Rattle.std.specs.Int.{w128}
 use Rattle.npp_frac.specs.Gcd.{IsGcd-gcd}
@@ -8,7 +8,9 @@ use Rattle.npp_frac.specs.Value.{value_of}
 use Rattle.npp_frac.proofs.arithmetic.sum.Goals as goal
 
 pub unsigned_product-requires : goal.unsigned_product-requires
-unsigned_product-requires c = record { positive = (rw c.gcd-g.ensures.exact (quotient_pos_left c.args.a.den c.args.b.den c.args.a.positive), c.args.b.positive) }
+unsigned_product-requires c =
+    let above : 0 < c.args.a.den / c.gcd-g.result = rw c.gcd-g.ensures.exact (quotient_pos_left c.args.a.den c.args.b.den c.args.a.positive) in
+    record { positive = (omega arith, c.args.b.positive) }
 
 pub returns-clause-exact : goal.returns-clause-exact
 returns-clause-exact c =
