@@ -77,7 +77,7 @@ pub gcd_comm : (a b : ℕ) → gcd a b ≡ gcd b a
 gcd_comm a b = gcd_is a b (gcd b a) (IsGcd-swap b a (gcd b a) (IsGcd-gcd b a))
 
 -- a divisor of a product that is coprime to one factor divides the other
-dvd_of_coprime_any : (e a f : ℕ) → gcd a e ≡ 1 → e ∣ (a * f) → e ∣ f
+pub dvd_of_coprime_any : (e a f : ℕ) → gcd a e ≡ 1 → e ∣ (a * f) → e ∣ f
 dvd_of_coprime_any e a zero one d = dvd-zero e
 dvd_of_coprime_any e a (suc f) one d = dvd_of_coprime e a (suc f) (omega arith) one d
 
@@ -89,7 +89,7 @@ coprime_parts a b c d x y ea ec one =
     let gc : gcd a c ∣ d = rw (← ec) (dvd-mul_right_of_dvd _ g.1 y) in
     eq-one_of_dvd-one (rw one at ((IsGcd-gcd b d).2 _ ga gc))
 
-coprime_product : (a b c : ℕ) → gcd a c ≡ 1 → gcd b c ≡ 1 → gcd (a * b) c ≡ 1
+pub coprime_product : (a b c : ℕ) → gcd a c ≡ 1 → gcd b c ≡ 1 → gcd (a * b) c ≡ 1
 coprime_product a b c ac bc =
     let g = IsGcd-gcd (a * b) c in
     let h = IsGcd-gcd a (gcd (a * b) c) in

@@ -7,6 +7,7 @@ pub mod Division
 pub mod Floor
 pub mod Sums
 pub mod Reduction
+pub mod SumGcd
 pub mod Fits
 pub mod FitsLaws
 pub mod Value

@@ -1,6 +1,7 @@
 // Operations on pairs, below a limit.
 
 ghost use Rattle.std.specs.Prelude.{◌≡◌, ◌≢◌, ◌<◌, ◌≤◌, ◌^◌, ◌↔◌, nat_abs, is_some, IsSome, IfSome};
+ghost use Rattle.npp_frac.specs.Gcd.{gcd as gcd_of};
 ghost use Rattle.npp_frac.specs.Rational.{ratio, whole, zero_ℚ, negative as negative_of, reciprocal, ◌+ℚ◌, ◌-ℚ◌, ◌*ℚ◌, ◌/ℚ◌};
 ghost use Rattle.npp_frac.specs.Fits.{FitsBelow, FitsAdd, FitsMul, fits_add, fits_sub, fits_mul, fits_div};
 ghost use Rattle.npp_frac.specs.Floor.{IsGreatestWhole, floor as floor_of};
@@ -8,24 +9,24 @@ ghost use Rattle.npp_frac.specs.Value.{value_of};
 
 use crate::gcd::gcd;
 use crate::numbers::{
-    negative, quotient, quotient_down, scaled, signed_product, signed_sum, size, unsigned_product,
-    with_sign,
+    divided, negative, quotient, quotient_down, scaled, signed_product, signed_sum, size,
+    unsigned_product, with_sign,
 };
 use crate::reduced::Reduced;
 
-/// The reduced pair of a numerator and a denominator.
-pub fn reduced(num: i128, den: u128) -> Reduced
+/// The pair of a numerator and a denominator whose greatest common divisor is given.
+pub fn reduced(num: i128, den: u128, divisor: u128) -> Reduced
     requires positive { 0 < den }
     requires num { nat_abs num < 2 ^ 127 }
     requires den { den < 2 ^ 127 }
+    requires divisor { divisor ≡ gcd_of (nat_abs num) den }
     ensures exact { value_of result ≡ ratio num den }
     ensures num { nat_abs result.num ≤ nat_abs num }
     ensures den { result.den ≤ den }
 {
-    let g = gcd(size(num), den);
     Reduced {
-        num: quotient(num, g),
-        den: den / g,
+        num: quotient(num, divisor),
+        den: divided(den, divisor),
     }
 }
 
@@ -37,13 +38,14 @@ pub fn sum(a: Reduced, b: Reduced, limit: u128) -> Option<Reduced>
     ensures below { IfSome result (λ r. FitsBelow limit (value_of r)) }
 {
     let g = gcd(a.den, b.den);
-    let a_den = a.den / g;
-    let b_den = b.den / g;
+    let a_den = divided(a.den, g);
+    let b_den = divided(b.den, g);
     let left = scaled(a.num, b_den, limit)?;
     let right = scaled(b.num, a_den, limit)?;
     let total = signed_sum(left, right, limit)?;
     let den = unsigned_product(a_den, b.den, limit)?;
-    Some(reduced(total, den))
+    // A common factor of the total and the denominator is one of the denominators too.
+    Some(reduced(total, den, gcd(size(total), g)))
 }
 
 /// The product, where its numbers are below the limit.
@@ -58,7 +60,7 @@ pub fn product(a: Reduced, b: Reduced, limit: u128) -> Option<Reduced>
     let left = quotient(a.num, first);
     let right = quotient(b.num, second);
     let num = signed_product(left, right, limit)?;
-    let den = unsigned_product(a.den / second, b.den / first, limit)?;
+    let den = unsigned_product(divided(a.den, second), divided(b.den, first), limit)?;
     Some(Reduced { num, den })
 }
 

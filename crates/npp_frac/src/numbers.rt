@@ -37,7 +37,26 @@ pub fn quotient(a: i128, by: u128) -> i128
     ensures exact { result ≡ int_div a (pos by) }
     ensures size { nat_abs result ≡ nat_abs a / by }
 {
+    if by == 1 { a } else { truncated(a, by) }
+}
+
+fn truncated(a: i128, by: u128) -> i128
+    requires positive { 0 < by }
+    requires below { by < 2 ^ 127 }
+    requires size { nat_abs a < 2 ^ 127 }
+    ensures exact { result ≡ int_div a (pos by) }
+    ensures size { nat_abs result ≡ nat_abs a / by }
+{
     a / (by as i128)
+}
+
+/// The quotient of two numbers that are not negative.
+pub fn divided(a: u128, by: u128) -> u128
+    requires { 0 < by }
+    ensures exact { result ≡ a / by }
+    ensures positive { by ≤ a → 0 < result }
+{
+    if by == 1 { a } else { a / by }
 }
 
 /// The quotient by a positive number, rounded down.

@@ -1,4 +1,4 @@
-use Rattle.std.proofs.Common.{rules, ap, ap₂, ◌∙◌, ◌≡◌, ◌*◌, ◌/◌, pos, nat_abs, FitsSigned, to_z, of_z, to_z-of_z, ◌*ℤ◌}
+use Rattle.std.proofs.Common.{rules, ◌<◌, lt_of_lt_of_le, ap, ap₂, ◌∙◌, ◌≡◌, ◌*◌, ◌/◌, pos, nat_abs, FitsSigned, to_z, of_z, to_z-of_z, ◌*ℤ◌}
 use Rattle.std.specs.Prelude.{int_div}
 use Rattle.std.specs.Int.{w128}
 use Rattle.npp_frac.specs.Gcd.{gcd}
@@ -34,3 +34,9 @@ pub returns-clause-exact : goal.returns-clause-exact
 returns-clause-exact c =
     let a = (goal.at.returns-clause-exact c).In_ok-den in
     product_value _ (value_of c.args.a) (value_of c.args.b) (numerator a) (denominator a)
+
+pub invariant_of-result-clause-num_below : goal.invariant_of-result-clause-num_below
+invariant_of-result-clause-num_below c =
+    let fits : FitsSigned w128 c.in_ok-num.num = search rules in
+    let small : nat_abs c.in_ok-num.num < c.args.limit = rw c.in_ok-num.ensures.1 c.in_ok-num.ensures.0 in
+    rw (to_z-of_z fits) (lt_of_lt_of_le small c.requires)

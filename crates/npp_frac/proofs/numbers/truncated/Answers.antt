@@ -3,7 +3,7 @@ use Rattle.std.specs.Prelude.{int_div}
 use Rattle.std.specs.Int.{w128}
 use Rattle.std.proofs.lemmas.Int.{ints, quot_fits, to_z_pos}
 use Rattle.npp_frac.specs.Rational.{abs_quot}
-use Rattle.npp_frac.proofs.numbers.quotient.Goals as goal
+use Rattle.npp_frac.proofs.numbers.truncated.Goals as goal
 
 plain : (c : goal.Start) → int_div (to_z w128 (of_z w128 c.args.a)) (to_z w128 c.args.by) ≡ int_div c.args.a (pos c.args.by)
 plain c =
