@@ -1,4 +1,4 @@
-// Operations on pairs, below a limit.
+//! Operations on pairs, below a limit.
 
 ghost use Rattle.std.specs.Prelude.{◌≡◌, ◌≢◌, ◌<◌, ◌≤◌, ◌^◌, ◌↔◌, nat_abs, is_some, IsSome, IfSome};
 ghost use Rattle.npp_frac.specs.Gcd.{gcd as gcd_of};

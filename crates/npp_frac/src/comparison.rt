@@ -1,4 +1,4 @@
-// The order of fractions, by products of twice their length.
+//! The order of fractions, by products of twice their length.
 
 ghost use Rattle.std.specs.Prelude.{◌≡◌, ◌<◌, ◌^◌, ◌+◌, ◌*◌};
 ghost use Rattle.std.specs.Ordering.{nat_cmp};

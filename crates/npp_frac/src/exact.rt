@@ -1,4 +1,4 @@
-// What the fractions of every width promise.
+//! What the fractions of every width promise.
 
 ghost use Rattle.std.specs.Prelude.{◌≡◌, ◌≢◌, ◌<◌, ℕ, pos, nat_abs, is_ok, IfOk, IfErr};
 ghost use Rattle.npp_frac.specs.Rational.{Rational, whole, zero_ℚ, rational_cmp, ◌+ℚ◌, ◌-ℚ◌, ◌*ℚ◌, ◌/ℚ◌};

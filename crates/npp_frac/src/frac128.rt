@@ -1,4 +1,4 @@
-// Fractions of 128 bits.
+//! Fractions of 128 bits.
 
 use crate::reduced::Reduced;
 

@@ -1,4 +1,4 @@
-// Fractions of 128 bits are exact.
+//! Fractions of 128 bits are exact.
 
 ghost use Rattle.npp_frac.specs.Wide.{value_of_wide};
 ghost use Rattle.npp_frac.specs.WideLaws.{wide_width, wide_fits, wide_same};

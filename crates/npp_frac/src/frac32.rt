@@ -1,4 +1,4 @@
-// Fractions of 32 bits.
+//! Fractions of 32 bits.
 
 ghost use Rattle.std.specs.Prelude.{◌^◌};
 ghost use Rattle.npp_frac.specs.Fits.{FitsBelow};

@@ -1,4 +1,4 @@
-// Fractions of 32 bits are exact.
+//! Fractions of 32 bits are exact.
 
 ghost use Rattle.npp_frac.specs.Narrow.{value_of_32};
 ghost use Rattle.npp_frac.specs.NarrowLaws.{width_32, fits_32, same_32};

@@ -1,4 +1,4 @@
-// Fractions of 64 bits.
+//! Fractions of 64 bits.
 
 ghost use Rattle.std.specs.Prelude.{◌^◌};
 ghost use Rattle.npp_frac.specs.Fits.{FitsBelow};

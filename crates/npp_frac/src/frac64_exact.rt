@@ -1,4 +1,4 @@
-// Fractions of 64 bits are exact.
+//! Fractions of 64 bits are exact.
 
 ghost use Rattle.npp_frac.specs.Narrow.{value_of_64};
 ghost use Rattle.npp_frac.specs.NarrowLaws.{width_64, fits_64, same_64};

@@ -1,4 +1,4 @@
-// The greatest common divisor, by Euclid's algorithm.
+//! The greatest common divisor, by Euclid's algorithm.
 
 ghost use Rattle.std.specs.Prelude.{◌≡◌, ◌<◌, ◌≤◌};
 ghost use Rattle.npp_frac.specs.Gcd.{gcd as gcd_of};

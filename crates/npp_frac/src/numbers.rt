@@ -1,4 +1,4 @@
-// Whole numbers below a limit in size.
+//! Whole numbers below a limit in size.
 
 ghost use Rattle.std.specs.Prelude.{◌≡◌, ◌<◌, ◌≤◌, ◌^◌, ◌*◌, ◌/◌, pos, ◌+ℤ◌, ◌*ℤ◌, neg_ℤ, int_div, int_lt, cond, nat_abs, IfSome, SomeIff};
 ghost use Rattle.std.specs.Int.{int_div_euclid};

@@ -1,4 +1,4 @@
-// Pairs without a common factor, on which the fractions of every width work.
+//! Pairs without a common factor, on which the fractions of every width work.
 
 ghost use Rattle.std.specs.Prelude.{◌≡◌, ◌<◌, ◌^◌, nat_abs};
 ghost use Rattle.npp_frac.specs.Gcd.{gcd as gcd_of};

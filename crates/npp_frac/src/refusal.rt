@@ -1,4 +1,4 @@
-// What a call answers in place of a value.
+//! What a call answers in place of a value.
 
 use std::alloc::AllocError;
 

@@ -1,4 +1,4 @@
-// Worked examples.
+//! Worked examples.
 
 ghost use Rattle.std.specs.Prelude.{◌≢◌, ◌<ℤ◌, pos};
 

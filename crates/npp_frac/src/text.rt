@@ -1,4 +1,4 @@
-// The text of a fraction, read and printed.
+//! The text of a fraction, read and printed.
 
 ghost use Rattle.std.specs.Prelude.{◌≡◌, ◌≢◌, ◌<◌, ◌^◌, ◌↔◌, ◌++◌, IsTrue, ℕ, pos, cond, int_lt, neg_ℤ, length, slice_index, Some, IfSome, IfNone, IsSomeAnd, IfOk};
 ghost use Rattle.std.specs.Fmt.{decimal};

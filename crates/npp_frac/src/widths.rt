@@ -1,4 +1,4 @@
-// One operation at one width, and at two.
+//! One operation at one width, and at two.
 
 ghost use Rattle.std.specs.Prelude.{◌≡◌, ◌≢◌, ◌≤◌, is_ok, IfOk, IfErr, IsOkAnd};
 ghost use Rattle.npp_frac.specs.Fits.{limit_of};
