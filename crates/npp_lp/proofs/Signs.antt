@@ -1,20 +1,13 @@
 -- The sign of a rational number is that of its numerator.
-use Rattle.std.proofs.Common.{◌≡◌, ◌↔◌, ℕ, ◌+◌, ◌*◌, ◌<◌, ◌≤◌, ℤ, pos, negsuc, Bool, cond, true, false, Less, Equal, Greater, IsTrue, nat_eq, FitsSigned, to_z, of_z, to_z-of_z, refl, sym, ◌∙◌, ap, arith, eqb-true}
+use Rattle.std.proofs.Common.{◌≡◌, ◌↔◌, ◌<ℤ◌, ◌≤ℤ◌, ℤ, pos, negsuc, Bool, cond, true, false, Less, Equal, Greater, IsTrue, nat_eq, FitsSigned, to_z, of_z, to_z-of_z, refl, sym, ◌∙◌, ap, arith, eqb-true}
 use Rattle.std.specs.Prelude.{int_lt}
 use Rattle.std.specs.Int.{w128}
 use Rattle.std.specs.Ordering.{is_lt}
 use Rattle.std.proofs.lemmas.Bool.Decides.{nat_tests}
-use borrow.Author.Differences.{up, down}
-use Rattle.npp_frac.specs.Rational.{Rational, whole, ratio, zero_ℚ, Is-self, Is-same, Is-whole, Is-lt, Is-le, is_less, rational_cmp}
+use Rattle.std.proofs.lemmas.Int.{ints}
+use Rattle.npp_frac.specs.Rational.{Rational, zero_ℚ, is_less, rational_cmp}
 use Rattle.npp_frac.specs.Order.{is_less_of_<ℚ, is_less_of_≤ℚ}
-use Rattle.npp_frac.specs.Gcd.{gcd, gcd_within}
-
-pub zero_of_num : (q : Rational) → q.num ≡ pos 0 → q ≡ zero_ℚ
-zero_of_num q e = Is-same (Is-self q) (Is-whole (pos 0)) (omega (arith, ap up e, ap down e))
-
-pub num_of_zero : (q : Rational) → q ≡ zero_ℚ → q.num ≡ pos 0
-unfolding whole ratio gcd gcd_within
-num_of_zero q e = ap (λ t. t.num) e
+use Rattle.npp_frac.specs.Sign.{zero_of_num, num_of_zero, below_zero_of_num, nonneg_of_num}
 
 -- a number of 128 bits is 0 where its bits are
 pub zero_test : (z : ℤ) → FitsSigned w128 z → IsTrue (nat_eq (of_z w128 z) 0) ↔ (z ≡ pos 0)
@@ -23,17 +16,17 @@ zero_test z fits = (λ h. sym (to_z-of_z fits) ∙ ap (to_z w128) (eqb-true (of_
 pub zero_test_rational : (q : Rational) (z : ℤ) → FitsSigned w128 z → z ≡ q.num → IsTrue (nat_eq (of_z w128 z) 0) ↔ (q ≡ zero_ℚ)
 zero_test_rational q z fits is = (λ h. zero_of_num q (sym is ∙ (zero_test z fits).0 h), λ e. (zero_test z fits).1 (is ∙ num_of_zero q e))
 
-negative_parts : (z : ℤ) (d : ℕ) → true ≡ int_lt z (pos 0) → up z * 1 + 0 * d < 0 * d + down z * 1
-negative_parts (pos n) d e = grind (arith, nat_tests)
-negative_parts (negsuc n) d e = omega arith
+below_of_test : (z : ℤ) → true ≡ int_lt z (pos 0) → z <ℤ pos 0
+below_of_test (pos n) e = grind (arith, nat_tests)
+below_of_test (negsuc n) e = omega (arith, ints)
 
-nonnegative_parts : (z : ℤ) (d : ℕ) → false ≡ int_lt z (pos 0) → 0 * d + down z * 1 ≤ up z * 1 + 0 * d
-nonnegative_parts (pos n) d e = omega arith
-nonnegative_parts (negsuc n) d e = cc
+at_least_of_test : (z : ℤ) → false ≡ int_lt z (pos 0) → pos 0 ≤ℤ z
+at_least_of_test (pos n) e = omega (arith, ints)
+at_least_of_test (negsuc n) e = cc
 
 negative_of_num_at : (q : Rational) (b : Bool) → b ≡ int_lt q.num (pos 0) → b ≡ is_less q zero_ℚ
-negative_of_num_at q true e = sym (is_less_of_<ℚ q zero_ℚ (Is-lt (Is-self q) (Is-whole (pos 0)) (negative_parts q.num q.den e)))
-negative_of_num_at q false e = sym (is_less_of_≤ℚ q zero_ℚ (Is-le (Is-whole (pos 0)) (Is-self q) (nonnegative_parts q.num q.den e)))
+negative_of_num_at q true e = sym (is_less_of_<ℚ q zero_ℚ (below_zero_of_num q (below_of_test q.num e)))
+negative_of_num_at q false e = sym (is_less_of_≤ℚ q zero_ℚ (nonneg_of_num q (at_least_of_test q.num e)))
 
 pub negative_of_num : (q : Rational) → int_lt q.num (pos 0) ≡ is_less q zero_ℚ
 negative_of_num q = negative_of_num_at q (int_lt q.num (pos 0)) refl

@@ -11,6 +11,8 @@ mod numbers;
 mod primal;
 mod program;
 mod sums;
+#[cfg(test)]
+mod tests;
 
 pub use dual::check_dual;
 pub use farkas::check_farkas;
