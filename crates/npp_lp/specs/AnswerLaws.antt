@@ -36,7 +36,7 @@ at_most_of_fault m n a b bound overflow fault e =
     let P : Rational → Type 0 = λ q. q ≤ℚ bound in
     subst P (sym (checked_sum_parts m a b n found.0 found.1).1) (is_less_no bound found.0 (cond_none (is_less bound found.0) fault found.2))
 
-dual_value : (r : Result Rational (Stop Rational)) (v : Rational) → dual_check.value_verdict r ≡ Ok v → r ≡ Ok v
+pub dual_value : (r : Result Rational (Stop Rational)) (v : Rational) → dual_check.value_verdict r ≡ Ok v → r ≡ Ok v
 dual_value (Ok w) v e = cc
 dual_value (Err o) v e = cc
 
@@ -54,11 +54,11 @@ dual_verdict_sound m p y v size e =
       value = sym (checked_sum_parts m (λ i. (row_of p i).right) (at y) (length p.rows) v total).1;
     }
 
-ok_of_cond : {T F : Type 0} → (t : T) (f : F) (b : Bool) → ◌≡◌ {A = Result T F} (cond b (Ok t) (Err f)) (Ok t) → b ≡ true
+pub ok_of_cond : {T F : Type 0} → (t : T) (f : F) (b : Bool) → ◌≡◌ {A = Result T F} (cond b (Ok t) (Err f)) (Ok t) → b ≡ true
 ok_of_cond t f true e = refl
 ok_of_cond t f false e = cc
 
-farkas_value : (r : Result Rational (Stop Rational)) → farkas_check.value_verdict r ≡ Ok tt → (v : Rational) × (r ≡ Ok v) × (v <ℚ zero_ℚ)
+pub farkas_value : (r : Result Rational (Stop Rational)) → farkas_check.value_verdict r ≡ Ok tt → (v : Rational) × (r ≡ Ok v) × (v <ℚ zero_ℚ)
 farkas_value (Ok w) e = (w, refl, is_less_yes w zero_ℚ (ok_of_cond (tt {0}) farkas.NotBelowZero (is_less w zero_ℚ) e))
 farkas_value (Err o) e = cc
 

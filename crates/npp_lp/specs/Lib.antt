@@ -10,4 +10,5 @@ pub mod DualVerdict
 pub mod FarkasVerdict
 pub mod PrimalVerdict
 pub mod AnswerLaws
+pub mod PassLaws
 pub mod Meaning

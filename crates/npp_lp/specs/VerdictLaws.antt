@@ -1,5 +1,5 @@
 -- The laws of first faults.
-use Rattle.std.specs.Prelude.{◌≡◌, ℕ, zero, suc, ◌+◌, ◌<◌, Bool, true, false, cond, List, length, Option, Some, None, Result, Ok, Err, refl, option_map}
+use Rattle.std.specs.Prelude.{◌≡◌, ℕ, zero, suc, ◌+◌, ◌<◌, Bool, true, false, cond, List, length, Option, Some, None, Result, Ok, Err, IsOk, refl, option_map}
 use Rattle.std.proofs.Common.{arith, subst, add-one, inl, inr, eq-or-lt_of_le, le_of_suc-le-suc}
 use Rattle.std.proofs.lemmas.List.{get_or_default}
 use Rattle.npp_frac.specs.Rational.{Rational, zero_ℚ, is_less, ◌≤ℚ◌}
@@ -79,3 +79,10 @@ pub first_of_not_negative : (xs : List Rational) → AreNotNegative xs → first
 unfolding negative_at
 first_of_not_negative xs h =
     first_below_clear (negative_at xs) (length xs) (λ i l. let no : is_less (at xs i) zero_ℚ ≡ false = is_less_of_≤ℚ (at xs i) zero_ℚ (h i zero_ℚ l) in rw no refl)
+
+pub unless_none : {T F : Type 0} → (o : Option F) (r : Result T F) → o ≡ None → unless o r ≡ r
+unless_none o r e = rw e refl
+
+pub unless_fits : {T F : Type 0} → (o : Option F) (x : T) → IsOk (unless o (Ok x)) → unless o (Ok x) ≡ Ok x
+unless_fits None x e = refl
+unless_fits (Some f) x e = cc
