@@ -30,12 +30,15 @@ module _ {N : Type 0} (value : N → Rational) where
   length-rows_of (r ∷ rs) [] h = absurd (omega arith)
   length-rows_of (r ∷ rs) (b ∷ bs) h = ap suc (length-rows_of rs bs (omega arith))
 
-  -- the terms of a row
-  pub terms_of_row : (rows : List (Vec (Entry N) Global)) (right : List N) (i : ℕ) (r : Vec (Entry N) Global) → length right ≡ length rows → i < length rows → r ≡ get_or rows i r → (get_or (rows_of value rows right) i no_row).terms ≡ terms_of value r.items
-  terms_of_row [] right i r e h is = absurd (omega arith)
-  terms_of_row (s ∷ rs) [] i r e h is = absurd (omega arith)
-  terms_of_row (s ∷ rs) (b ∷ bs) zero r e h is = ap (λ t. terms_of value t.items) (sym is)
-  terms_of_row (s ∷ rs) (b ∷ bs) (suc i) r e h is = terms_of_row rs bs i r (omega arith) (omega arith) is
+  terms_at_row : (rows : List (Vec (Entry N) Global)) (right : List N) (i : ℕ) (r : Vec (Entry N) Global) → length right ≡ length rows → i < length rows → r ≡ get_or rows i r → (get_or (rows_of value rows right) i no_row).terms ≡ terms_of value r.items
+  terms_at_row [] right i r e h is = absurd (omega arith)
+  terms_at_row (s ∷ rs) [] i r e h is = absurd (omega arith)
+  terms_at_row (s ∷ rs) (b ∷ bs) zero r e h is = ap (λ t. terms_of value t.items) (sym is)
+  terms_at_row (s ∷ rs) (b ∷ bs) (suc i) r e h is = terms_at_row rs bs i r (omega arith) (omega arith) is
+
+  -- the terms of a row, which the code reads as a slice
+  pub terms_of_row : (rows : List (Vec (Entry N) Global)) (right : List N) (i : ℕ) (r : Vec (Entry N) Global) (es : List (Entry N)) → length right ≡ length rows → i < length rows → r ≡ get_or rows i r → es ≡ r.items → (get_or (rows_of value rows right) i no_row).terms ≡ terms_of value es
+  terms_of_row rows right i r es e h is read = terms_at_row rows right i r e h is ∙ ap (terms_of value) (sym read)
 
   -- the right side of a row
   pub right_of_row : (rows : List (Vec (Entry N) Global)) (right : List N) (i : ℕ) → length right ≡ length rows → i < length rows → (get_or (rows_of value rows right) i no_row).right ≡ at (map value right) i
@@ -61,7 +64,7 @@ module _ {N : Type 0} (value : N → Rational) where
   pub row_terms : (p : Program N) (i : ℕ) (r : Vec (Entry N) Global) → IsProgram value p → i < length p.rows.items → r ≡ get_or p.rows.items i r → AreTerms p.columns (terms_of value r.items)
   row_terms p i r h l is =
       let within : i < length (rows_of value p.rows.items p.right.items) = omega (arith, length-rows_of p.rows.items p.right.items h.right) in
-      subst (AreTerms p.columns) (terms_of_row p.rows.items p.right.items i r h.right l is) (h.rows i no_row within)
+      subst (AreTerms p.columns) (terms_at_row p.rows.items p.right.items i r h.right l is) (h.rows i no_row within)
 
 -- an entry in range
 pub in_range_at : {N : Type 0} → (n : ℕ) (es : List (Entry N)) (k : ℕ) (e : Entry N) → All (λ t. t.column < n) es → k < length es → e ≡ get_or es k e → e.column < n

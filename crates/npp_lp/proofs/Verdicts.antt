@@ -2,12 +2,14 @@
 use Rattle.std.proofs.Common.{◌≡◌, ℕ, zero, suc, ◌<◌, ◌≤◌, Bool, true, false, cond, List, length, map, Option, Some, None, Result, Ok, Err, refl, sym, ◌∙◌, ap, ap₂, arith}
 use Rattle.std.specs.Prelude.{option_map}
 use Rattle.std.proofs.lemmas.List.{length-map}
-use Rattle.npp_frac.specs.Rational.{Rational, ◌*ℚ◌}
+use Rattle.npp_frac.specs.Rational.{Rational, is_less, ◌*ℚ◌}
 use Rattle.npp_frac.specs.Sums.{sum_to_same}
+use Rattle.npp_frac.specs.declared.refusal.Overflow.{Overflow}
 use Rattle.npp_lp.specs.declared.program.Program.{Program}
 use Rattle.npp_lp.specs.Verdict.{or_else, first_below, first_negative, unless, sum_fault}
 use Rattle.npp_lp.specs.VerdictLaws.{first_below_found}
-use Rattle.npp_lp.specs.Programs.{at, row_of, product_sum}
+use Rattle.npp_lp.specs.Checked.{checked_terms}
+use Rattle.npp_lp.specs.Programs.{Term, at, row_of, product_sum}
 use Rattle.npp_lp.specs.Sums.{joining_overflow, sum_overflow, checked_sum}
 use Rattle.npp_lp.specs.Meaning.{linear_program, rows_of, IsProgram}
 use Rattle.npp_lp.proofs.Lookups.{length-rows_of, right_of_row}
@@ -56,16 +58,28 @@ checked_sum_same m n a c b h =
     ap₂ (λ o s. unless o (Ok s)) stops (sums n (omega arith))
 
 -- the sum of the right sides, as the code forms it
-pub right_sum : {N : Type 0} → (value : N → Rational) (m : ℕ) (p : Program N) (right : List N) (y : ℕ → Rational) → IsProgram value p → right ≡ p.right.items → checked_sum m (length right) (at (map value right)) y ≡ checked_sum m (length (linear_program value p).rows) (λ i. (row_of (linear_program value p) i).right) y
-right_sum value m p right y h e =
+pub right_sum : {N : Type 0} → (value : N → Rational) (m : ℕ) (p : Program N) (right : List N) (y : ℕ → Rational) (r : Result Rational (Overflow Rational)) → IsProgram value p → right ≡ p.right.items → r ≡ checked_sum m (length right) (at (map value right)) y → checked_sum m (length (linear_program value p).rows) (λ i. (row_of (linear_program value p) i).right) y ≡ r
+right_sum value m p right y r h e is =
     let count : length (rows_of value p.rows.items p.right.items) ≡ length p.rows.items = length-rows_of value p.rows.items p.right.items h.right in
-    rw (e, h.right, count)
-    (checked_sum_same m (length p.rows.items) (at (map value p.right.items)) (λ i. (row_of (linear_program value p) i).right) y (λ i l. sym (right_of_row value p.rows.items p.right.items i h.right l)))
+    let same : checked_sum m (length p.rows.items) (at (map value p.right.items)) y ≡ checked_sum m (length p.rows.items) (λ i. (row_of (linear_program value p) i).right) y =
+    checked_sum_same m (length p.rows.items) (at (map value p.right.items)) (λ i. (row_of (linear_program value p) i).right) y (λ i l. sym (right_of_row value p.rows.items p.right.items i h.right l)) in
+    rw (is, e, h.right, count) (sym same)
+
+-- the goal, as the code forms it
+pub goal_sum : {N : Type 0} → (value : N → Rational) (m : ℕ) (p : Program N) (goal : List N) (x : ℕ → Rational) (r : Result Rational (Overflow Rational)) → IsProgram value p → goal ≡ p.goal.items → r ≡ checked_sum m (length goal) (at (map value goal)) x → checked_sum m p.columns (at (map value p.goal.items)) x ≡ r
+goal_sum value m p goal x r h e is = rw (is, e, h.goal) refl
+
+-- the sum of a row, as the code forms it
+pub row_sum : (m : ℕ) (x : List Rational) (terms read : List Term) (r : Result Rational (Overflow Rational)) → terms ≡ read → r ≡ checked_terms m read x → r ≡ checked_terms m terms x
+row_sum m x terms read r e is = rw e is
 
 -- there is a multiplier for each row
 pub length_of_multipliers : {N : Type 0} → (value : N → Rational) (p : Program N) (y : List N) → IsProgram value p → length y ≡ length p.rows.items → length (map value y) ≡ length (linear_program value p).rows
 length_of_multipliers value p y h e = length-map y value ∙ e ∙ sym (length-rows_of value p.rows.items p.right.items h.right)
 
--- the goal, as the code forms it
-pub goal_sum : {N : Type 0} → (value : N → Rational) (m : ℕ) (p : Program N) (goal : List N) (x : ℕ → Rational) → IsProgram value p → goal ≡ p.goal.items → checked_sum m (length goal) (at (map value goal)) x ≡ checked_sum m p.columns (at (map value p.goal.items)) x
-goal_sum value m p goal x h e = rw (e, h.goal) refl
+-- a test of a number that was read
+pub less_than_read : (q r s : Rational) (b c : Bool) → r ≡ s → b ≡ is_less q s → b ≡ c → is_less q r ≡ c
+less_than_read q r s b c e is known = rw (e, ← is) known
+
+pub read_less_than : (q r s : Rational) (b c : Bool) → q ≡ r → b ≡ is_less r s → b ≡ c → is_less q s ≡ c
+read_less_than q r s b c e is known = rw (e, ← is) known

@@ -1,5 +1,5 @@
 -- A dual answer and a Farkas answer pass their checks exactly where the sums fit.
-use Rattle.std.specs.Prelude.{◌≡◌, ℕ, ◌<◌, Bool, true, false, cond, List, length, Option, Some, None, Result, Ok, Err, IsOk, is_ok, option_map, refl}
+use Rattle.std.specs.Prelude.{◌≡◌, ℕ, true, false, cond, List, length, Some, None, Ok, IsOk, is_ok, option_map, refl}
 use Rattle.std.proofs.Common.{sym, ◌∙◌, ap}
 use Rattle.npp_frac.specs.Rational.{Rational, zero_ℚ, is_less, ◌≤ℚ◌, ◌<ℚ◌}
 use Rattle.npp_frac.specs.Order.{is_less_of_<ℚ, is_less_of_≤ℚ}

@@ -11,7 +11,7 @@ use Rattle.npp_lp.specs.DualLaws.{weak_duality}
 use Rattle.npp_lp.specs.Meaning.{linear_program, overflow_of, dual_fault}
 use Rattle.npp_lp.proofs.Adding.{handed_on}
 use Rattle.npp_lp.proofs.Lookups.{at-map}
-use Rattle.npp_lp.proofs.Verdicts.{judged_negative, judged_fault, judged_rest, sum_fault_overflow, sum_fault_judged, cond_some, cond_no, right_sum, length_of_multipliers}
+use Rattle.npp_lp.proofs.Verdicts.{judged_negative, judged_fault, judged_rest, sum_fault_overflow, sum_fault_judged, cond_some, cond_no, right_sum, length_of_multipliers, less_than_read}
 use Rattle.npp_lp.proofs.dual.check_dual.Goals as goal
 
 pub returns-in-Some-clause-verdict : goal.returns-in-Some-clause-verdict
@@ -46,7 +46,7 @@ returns-then-is_below-clause-verdict g c =
     let j = c.loop-column.column in
     let within : j < length c.args.program.now.goal.items = omega arith in
     let goal_is : at p.goal j ≡ v c.index.result.now = at-map v c.args.program.now.goal.items j c.index.result.now within c.index.ensures in
-    let below : is_less (v c.in_ok-sum.sum) (at p.goal j) ≡ true = ap (is_less (v c.in_ok-sum.sum)) goal_is ∙ sym c.is_below.ensures ∙ c.if-is_below.true in
+    let below : is_less (v c.in_ok-sum.sum) (at p.goal j) ≡ true = less_than_read (v c.in_ok-sum.sum) (at p.goal j) (v c.index.result.now) c.is_below.result true goal_is c.is_below.ensures c.if-is_below.true in
     let short : column_fault m p y j ≡ Some (Column j) = sum_fault_judged Overflow _ (checked_column m p y j) (v c.in_ok-sum.sum) c.in_ok-sum.ensures ∙ cond_some _ (Column j) below in
     sym (judged_fault NegativeRow y p.columns (column_fault m p y) (value_verdict (checked_right m p y)) j _ c.in_default.ensures c.loop-column-test.true c.loop-column.invariant short)
 
@@ -59,7 +59,7 @@ loop-column-preserved g c =
     let j = c.loop-column.column in
     let within : j < length c.args.program.now.goal.items = omega arith in
     let goal_is : at p.goal j ≡ v c.index.result.now = at-map v c.args.program.now.goal.items j c.index.result.now within c.index.ensures in
-    let enough : is_less (v c.in_ok-sum.sum) (at p.goal j) ≡ false = ap (is_less (v c.in_ok-sum.sum)) goal_is ∙ sym c.is_below.ensures ∙ c.if-is_below.false in
+    let enough : is_less (v c.in_ok-sum.sum) (at p.goal j) ≡ false = less_than_read (v c.in_ok-sum.sum) (at p.goal j) (v c.index.result.now) c.is_below.result false goal_is c.is_below.ensures c.if-is_below.false in
     let fine : column_fault m p y j ≡ None = sum_fault_judged Overflow _ (checked_column m p y j) (v c.in_ok-sum.sum) c.in_ok-sum.ensures ∙ cond_no _ (Column j) enough in
     first_below_more (column_fault m p y) j c.loop-column.invariant fine
 
@@ -71,7 +71,7 @@ returns-in_err-value-clause-verdict g c =
     let p = linear_program v c.args.program.now in
     let y = map v c.args.y.now in
     let o = c.in_err-value.field-0.0 in
-    let stops : checked_right m p y ≡ Err (overflow_of v o) = sym (right_sum v m c.args.program.now c.deref.result.now (at y) c.requires.program c.deref.ensures.value) ∙ sym c.in_err-value.ensures in
+    let stops : checked_right m p y ≡ Err (overflow_of v o) = right_sum v m c.args.program.now c.deref.result.now (at y) (Err (overflow_of v o)) c.requires.program c.deref.ensures.value c.in_err-value.ensures in
     handed_on v (dual_fault v) c.from_residual-in_err-value.result (Overflow o) (dual_verdict m p y) c.from_residual-in_err-value.ensures.1
     (judged_rest NegativeRow y p.columns (column_fault m p y) (value_verdict (checked_right m p y)) c.loop-column.column c.in_default.ensures (omega arith) c.loop-column.invariant ∙ ap value_verdict stops)
 
@@ -82,7 +82,7 @@ returns-clause-verdict g c =
     let m = limit_of g.N.Exact.WIDTH in
     let p = linear_program v c.args.program.now in
     let y = map v c.args.y.now in
-    let total : checked_right m p y ≡ Ok (v c.in_ok-value.value) = sym (right_sum v m c.args.program.now c.deref.result.now (at y) c.requires.program c.deref.ensures.value) ∙ sym c.in_ok-value.ensures in
+    let total : checked_right m p y ≡ Ok (v c.in_ok-value.value) = right_sum v m c.args.program.now c.deref.result.now (at y) (Ok (v c.in_ok-value.value)) c.requires.program c.deref.ensures.value c.in_ok-value.ensures in
     sym (judged_rest NegativeRow y p.columns (column_fault m p y) (value_verdict (checked_right m p y)) c.loop-column.column c.in_default.ensures (omega arith) c.loop-column.invariant ∙ ap value_verdict total)
 
 pub returns-clause-answer : goal.returns-clause-answer

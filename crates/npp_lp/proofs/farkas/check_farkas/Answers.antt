@@ -59,7 +59,7 @@ returns-in_err-value-clause-verdict g c =
     let p = linear_program v c.args.program.now in
     let y = map v c.args.y.now in
     let o = c.in_err-value.field-0.0 in
-    let stops : checked_right m p y ≡ Err (overflow_of v o) = sym (right_sum v m c.args.program.now c.deref.result.now (at y) c.requires.program c.deref.ensures.value) ∙ sym c.in_err-value.ensures in
+    let stops : checked_right m p y ≡ Err (overflow_of v o) = right_sum v m c.args.program.now c.deref.result.now (at y) (Err (overflow_of v o)) c.requires.program c.deref.ensures.value c.in_err-value.ensures in
     handed_on (λ u. u) (farkas_fault v) c.from_residual-in_err-value.result (Overflow o) (farkas_verdict m p y) c.from_residual-in_err-value.ensures.1
     (judged_rest NegativeRow y p.columns (column_fault m p y) (value_verdict (checked_right m p y)) c.loop-column.column c.in_default.ensures (omega arith) c.loop-column.invariant ∙ ap value_verdict stops)
 
@@ -70,7 +70,7 @@ returns-then-is_negative-2-clause-verdict g c =
     let m = limit_of g.N.Exact.WIDTH in
     let p = linear_program v c.args.program.now in
     let y = map v c.args.y.now in
-    let total : checked_right m p y ≡ Ok (v c.in_ok-value.value) = sym (right_sum v m c.args.program.now c.deref.result.now (at y) c.requires.program c.deref.ensures.value) ∙ sym c.in_ok-value.ensures in
+    let total : checked_right m p y ≡ Ok (v c.in_ok-value.value) = right_sum v m c.args.program.now c.deref.result.now (at y) (Ok (v c.in_ok-value.value)) c.requires.program c.deref.ensures.value c.in_ok-value.ensures in
     let below : value_verdict (Ok (v c.in_ok-value.value)) ≡ Ok tt = judged_below (v c.in_ok-value.value) (sym c.is_negative-2.ensures ∙ c.if-is_negative-2.true) in
     sym (judged_rest NegativeRow y p.columns (column_fault m p y) (value_verdict (checked_right m p y)) c.loop-column.column c.in_default.ensures (omega arith) c.loop-column.invariant ∙ ap value_verdict total ∙ below)
 
@@ -81,7 +81,7 @@ returns-else-is_negative-2-clause-verdict g c =
     let m = limit_of g.N.Exact.WIDTH in
     let p = linear_program v c.args.program.now in
     let y = map v c.args.y.now in
-    let total : checked_right m p y ≡ Ok (v c.in_ok-value.value) = sym (right_sum v m c.args.program.now c.deref.result.now (at y) c.requires.program c.deref.ensures.value) ∙ sym c.in_ok-value.ensures in
+    let total : checked_right m p y ≡ Ok (v c.in_ok-value.value) = right_sum v m c.args.program.now c.deref.result.now (at y) (Ok (v c.in_ok-value.value)) c.requires.program c.deref.ensures.value c.in_ok-value.ensures in
     let not_below : value_verdict (Ok (v c.in_ok-value.value)) ≡ Err NotBelowZero = judged_not_below (v c.in_ok-value.value) (sym c.is_negative-2.ensures ∙ c.if-is_negative-2.false) in
     sym (judged_rest NegativeRow y p.columns (column_fault m p y) (value_verdict (checked_right m p y)) c.loop-column.column c.in_default.ensures (omega arith) c.loop-column.invariant ∙ ap value_verdict total ∙ not_below)
 

@@ -4,7 +4,6 @@ use Rattle.npp_frac.specs.Rational.{is_less}
 use Rattle.npp_frac.specs.Fits.{limit_of}
 use Rattle.npp_lp.specs.declared.faults.PrimalFault.TheVariants.{NegativeColumn, Row, Overflow}
 use Rattle.npp_lp.specs.Programs.{at, row_of}
-use Rattle.npp_lp.specs.Sums.{checked_sum}
 use Rattle.npp_lp.specs.Checked.{checked_terms, checked_goal}
 use Rattle.npp_lp.specs.VerdictLaws.{first_below_more}
 use Rattle.npp_lp.specs.PrimalVerdict.{row_fault, value_verdict, primal_verdict}
@@ -12,7 +11,7 @@ use Rattle.npp_lp.specs.AnswerLaws.{primal_verdict_point, primal_verdict_goal}
 use Rattle.npp_lp.specs.Meaning.{linear_program, terms_of, overflow_of, primal_fault}
 use Rattle.npp_lp.proofs.Adding.{handed_on}
 use Rattle.npp_lp.proofs.Lookups.{length-rows_of, terms_of_row, right_of_row, row_terms, in_range_of_terms, read_right}
-use Rattle.npp_lp.proofs.Verdicts.{judged_negative, judged_fault, judged_rest, sum_fault_overflow, sum_fault_judged, cond_some, cond_no, goal_sum}
+use Rattle.npp_lp.proofs.Verdicts.{judged_negative, judged_fault, judged_rest, sum_fault_overflow, sum_fault_judged, cond_some, cond_no, goal_sum, row_sum, read_less_than}
 use Rattle.npp_lp.proofs.primal.check_primal.Goals as goal
 
 pub returns-in-Some-clause-verdict : goal.returns-in-Some-clause-verdict
@@ -41,9 +40,9 @@ returns-in_err-sum-clause-verdict g c =
     let i = c.loop-row.row in
     let within : i < length c.args.program.now.rows.items = omega (arith, c.deref-right-items.ensures.len) in
     let terms : (row_of p i).terms ≡ terms_of v c.deref.result.now =
-    terms_of_row v c.args.program.now.rows.items c.args.program.now.right.items i c.index.result.now c.requires.program.right within c.index.ensures ∙ ap (terms_of v) (sym c.deref.ensures.value) in
+    terms_of_row v c.args.program.now.rows.items c.args.program.now.right.items i c.index.result.now c.deref.result.now c.requires.program.right within c.index.ensures c.deref.ensures.value in
     let o = c.in_err-sum.field-0.0 in
-    let stops : row_fault m p x i ≡ Some (Overflow (overflow_of v o)) = sum_fault_overflow Overflow _ (checked_terms m (row_of p i).terms x) (overflow_of v o) (c.in_err-sum.ensures ∙ ap (λ t. checked_terms m t x) (sym terms)) in
+    let stops : row_fault m p x i ≡ Some (Overflow (overflow_of v o)) = sum_fault_overflow Overflow _ (checked_terms m (row_of p i).terms x) (overflow_of v o) (row_sum m x (row_of p i).terms (terms_of v c.deref.result.now) (Err (overflow_of v o)) terms c.in_err-sum.ensures) in
     let below : i < length p.rows = rw (length-rows_of v c.args.program.now.rows.items c.args.program.now.right.items c.requires.program.right) within in
     handed_on v (primal_fault v) c.from_residual.result (Overflow o) (primal_verdict m p x) c.from_residual.ensures.1
     (judged_fault NegativeColumn x (length p.rows) (row_fault m p x) (value_verdict (checked_goal m p x)) i _ c.in_default.ensures below c.loop-row.invariant stops)
@@ -58,11 +57,11 @@ returns-then-is_below-clause-verdict g c =
     let i = c.loop-row.row in
     let within : i < length c.args.program.now.rows.items = omega (arith, c.deref-right-items.ensures.len) in
     let terms : (row_of p i).terms ≡ terms_of v c.deref.result.now =
-    terms_of_row v c.args.program.now.rows.items c.args.program.now.right.items i c.index.result.now c.requires.program.right within c.index.ensures ∙ ap (terms_of v) (sym c.deref.ensures.value) in
+    terms_of_row v c.args.program.now.rows.items c.args.program.now.right.items i c.index.result.now c.deref.result.now c.requires.program.right within c.index.ensures c.deref.ensures.value in
     let right_is : (row_of p i).right ≡ v c.right-item.result =
     right_of_row v c.args.program.now.rows.items c.args.program.now.right.items i c.requires.program.right within ∙ read_right v c.deref-right-items.result.now c.args.program.now.right.items i c.right-item.result c.deref-right-items.ensures.value c.loop-row-test.true c.right-item.is in
-    let above : is_less (row_of p i).right (v c.in_ok-sum.sum) ≡ true = ap (λ t. is_less t (v c.in_ok-sum.sum)) right_is ∙ sym c.is_below.ensures ∙ c.if-is_below.true in
-    let broken : row_fault m p x i ≡ Some (Row i) = sum_fault_judged Overflow _ (checked_terms m (row_of p i).terms x) (v c.in_ok-sum.sum) (c.in_ok-sum.ensures ∙ ap (λ t. checked_terms m t x) (sym terms)) ∙ cond_some _ (Row i) above in
+    let above : is_less (row_of p i).right (v c.in_ok-sum.sum) ≡ true = read_less_than (row_of p i).right (v c.right-item.result) (v c.in_ok-sum.sum) c.is_below.result true right_is c.is_below.ensures c.if-is_below.true in
+    let broken : row_fault m p x i ≡ Some (Row i) = sum_fault_judged Overflow _ (checked_terms m (row_of p i).terms x) (v c.in_ok-sum.sum) (row_sum m x (row_of p i).terms (terms_of v c.deref.result.now) (Ok (v c.in_ok-sum.sum)) terms c.in_ok-sum.ensures) ∙ cond_some _ (Row i) above in
     let below : i < length p.rows = rw (length-rows_of v c.args.program.now.rows.items c.args.program.now.right.items c.requires.program.right) within in
     sym (judged_fault NegativeColumn x (length p.rows) (row_fault m p x) (value_verdict (checked_goal m p x)) i _ c.in_default.ensures below c.loop-row.invariant broken)
 
@@ -75,11 +74,11 @@ loop-row-preserved g c =
     let i = c.loop-row.row in
     let within : i < length c.args.program.now.rows.items = omega (arith, c.deref-right-items.ensures.len) in
     let terms : (row_of p i).terms ≡ terms_of v c.deref.result.now =
-    terms_of_row v c.args.program.now.rows.items c.args.program.now.right.items i c.index.result.now c.requires.program.right within c.index.ensures ∙ ap (terms_of v) (sym c.deref.ensures.value) in
+    terms_of_row v c.args.program.now.rows.items c.args.program.now.right.items i c.index.result.now c.deref.result.now c.requires.program.right within c.index.ensures c.deref.ensures.value in
     let right_is : (row_of p i).right ≡ v c.right-item.result =
     right_of_row v c.args.program.now.rows.items c.args.program.now.right.items i c.requires.program.right within ∙ read_right v c.deref-right-items.result.now c.args.program.now.right.items i c.right-item.result c.deref-right-items.ensures.value c.loop-row-test.true c.right-item.is in
-    let kept : is_less (row_of p i).right (v c.in_ok-sum.sum) ≡ false = ap (λ t. is_less t (v c.in_ok-sum.sum)) right_is ∙ sym c.is_below.ensures ∙ c.if-is_below.false in
-    let fine : row_fault m p x i ≡ None = sum_fault_judged Overflow _ (checked_terms m (row_of p i).terms x) (v c.in_ok-sum.sum) (c.in_ok-sum.ensures ∙ ap (λ t. checked_terms m t x) (sym terms)) ∙ cond_no _ (Row i) kept in
+    let kept : is_less (row_of p i).right (v c.in_ok-sum.sum) ≡ false = read_less_than (row_of p i).right (v c.right-item.result) (v c.in_ok-sum.sum) c.is_below.result false right_is c.is_below.ensures c.if-is_below.false in
+    let fine : row_fault m p x i ≡ None = sum_fault_judged Overflow _ (checked_terms m (row_of p i).terms x) (v c.in_ok-sum.sum) (row_sum m x (row_of p i).terms (terms_of v c.deref.result.now) (Ok (v c.in_ok-sum.sum)) terms c.in_ok-sum.ensures) ∙ cond_no _ (Row i) kept in
     first_below_more (row_fault m p x) i c.loop-row.invariant fine
 
 pub returns-in_err-goal-clause-verdict : goal.returns-in_err-goal-clause-verdict
@@ -90,9 +89,8 @@ returns-in_err-goal-clause-verdict g c =
     let p = linear_program v c.args.program.now in
     let x = map v c.args.x.now in
     let all : length p.rows ≡ c.loop-row.row = length-rows_of v c.args.program.now.rows.items c.args.program.now.right.items c.requires.program.right ∙ omega (arith, c.deref-right-items.ensures.len) in
-    let goal_is : checked_sum m (length c.deref-2.result.now) (at (map v c.deref-2.result.now)) (at x) ≡ checked_goal m p x = goal_sum v m c.args.program.now c.deref-2.result.now (at x) c.requires.program c.deref-2.ensures.value in
     let o = c.in_err-goal.field-0.0 in
-    let stops : checked_goal m p x ≡ Err (overflow_of v o) = sym goal_is ∙ sym c.in_err-goal.ensures in
+    let stops : checked_goal m p x ≡ Err (overflow_of v o) = goal_sum v m c.args.program.now c.deref-2.result.now (at x) (Err (overflow_of v o)) c.requires.program c.deref-2.ensures.value c.in_err-goal.ensures in
     handed_on v (primal_fault v) c.from_residual-in_err-goal.result (Overflow o) (primal_verdict m p x) c.from_residual-in_err-goal.ensures.1
     (judged_rest NegativeColumn x (length p.rows) (row_fault m p x) (value_verdict (checked_goal m p x)) c.loop-row.row c.in_default.ensures all c.loop-row.invariant ∙ ap value_verdict stops)
 
@@ -104,8 +102,7 @@ returns-clause-verdict g c =
     let p = linear_program v c.args.program.now in
     let x = map v c.args.x.now in
     let all : length p.rows ≡ c.loop-row.row = length-rows_of v c.args.program.now.rows.items c.args.program.now.right.items c.requires.program.right ∙ omega (arith, c.deref-right-items.ensures.len) in
-    let goal_is : checked_sum m (length c.deref-2.result.now) (at (map v c.deref-2.result.now)) (at x) ≡ checked_goal m p x = goal_sum v m c.args.program.now c.deref-2.result.now (at x) c.requires.program c.deref-2.ensures.value in
-    let total : checked_goal m p x ≡ Ok (v c.in_ok-goal.goal) = sym goal_is ∙ sym c.in_ok-goal.ensures in
+    let total : checked_goal m p x ≡ Ok (v c.in_ok-goal.goal) = goal_sum v m c.args.program.now c.deref-2.result.now (at x) (Ok (v c.in_ok-goal.goal)) c.requires.program c.deref-2.ensures.value c.in_ok-goal.ensures in
     sym (judged_rest NegativeColumn x (length p.rows) (row_fault m p x) (value_verdict (checked_goal m p x)) c.loop-row.row c.in_default.ensures all c.loop-row.invariant ∙ ap value_verdict total)
 
 pub returns-clause-point : goal.returns-clause-point

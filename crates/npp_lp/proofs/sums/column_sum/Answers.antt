@@ -23,7 +23,7 @@ loop-row-preserved g c =
     let p = linear_program v c.args.program.now in
     let within : c.loop-row.row < length c.args.program.now.rows.items = omega arith in
     let terms : (row_of p c.loop-row.row).terms ≡ terms_of v c.deref.result.now =
-    terms_of_row v c.args.program.now.rows.items c.args.program.now.right.items c.loop-row.row c.index.result.now c.requires.program.right within c.index.ensures ∙ ap (terms_of v) (sym c.deref.ensures.value) in
+    terms_of_row v c.args.program.now.rows.items c.args.program.now.right.items c.loop-row.row c.index.result.now c.deref.result.now c.requires.program.right within c.index.ensures c.deref.ensures.value in
     checked_sum_goes_on (limit_of g.N.Exact.WIDTH) (λ i. coefficient (row_of p i).terms c.args.column) (at (map v c.args.y.now)) c.loop-row.row (v c.loop-row.sum) (v c.in_ok-sum.sum) _ _
     (ap (λ t. coefficient t c.args.column) terms)
     (at-map v c.args.y.now c.loop-row.row c.index-y-row.result c.loop-row-test.true c.index-y-row.is)
@@ -35,7 +35,7 @@ returns-in_err-sum g c =
     let p = linear_program v c.args.program.now in
     let within : c.loop-row.row < length c.args.program.now.rows.items = omega arith in
     let terms : (row_of p c.loop-row.row).terms ≡ terms_of v c.deref.result.now =
-    terms_of_row v c.args.program.now.rows.items c.args.program.now.right.items c.loop-row.row c.index.result.now c.requires.program.right within c.index.ensures ∙ ap (terms_of v) (sym c.deref.ensures.value) in
+    terms_of_row v c.args.program.now.rows.items c.args.program.now.right.items c.loop-row.row c.index.result.now c.deref.result.now c.requires.program.right within c.index.ensures c.deref.ensures.value in
     let below : c.loop-row.row < length p.rows = rw (length-rows_of v c.args.program.now.rows.items c.args.program.now.right.items c.requires.program.right) within in
     handed_on v (overflow_of v) c.from_residual.result _ _ c.from_residual.ensures.1
     (checked_sum_ends (limit_of g.N.Exact.WIDTH) (λ i. coefficient (row_of p i).terms c.args.column) (at (map v c.args.y.now)) (length p.rows) c.loop-row.row (v c.loop-row.sum) _ _ _ below
