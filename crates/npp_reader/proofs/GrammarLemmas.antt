@@ -10,7 +10,7 @@ pub line_bad : (above : Declared) (line : List ℕ) → is_utf8 line ≡ false �
 unfolding after_line
 line_bad above line bad = rw bad
 
-line_good : (above : Declared) (line : List ℕ) (fields : List (List ℕ)) → is_utf8 line ≡ true → fields_of line ≡ fields → after_line above line ≡ after_fields above fields
+pub line_good : (above : Declared) (line : List ℕ) (fields : List (List ℕ)) → is_utf8 line ≡ true → fields_of line ≡ fields → after_line above line ≡ after_fields above fields
 unfolding after_line
 line_good above line fields good e = rw (good, e)
 

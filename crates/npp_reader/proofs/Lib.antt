@@ -5,3 +5,5 @@ pub mod GrammarLemmas
 pub mod WithinLemmas
 pub mod ReadLemmas
 pub mod RefusalLemmas
+pub mod FieldLines
+pub mod RoundTrip

@@ -31,7 +31,7 @@ position_missed p xs e = missed (ltb (position_or_len p xs) (length xs)) refl e 
   missed false h e = let low = position-le p xs in let high = ltb-false _ _ h in omega arith
 
 -- a part that another follows stays
-kept_part : (part : List ℕ) (parts : List (List ℕ)) → 0 < length parts → without_empty_end (part ∷ parts) ≡ part ∷ without_empty_end parts
+pub kept_part : (part : List ℕ) (parts : List (List ℕ)) → 0 < length parts → without_empty_end (part ∷ parts) ≡ part ∷ without_empty_end parts
 kept_part part [] h = absurd (omega arith)
 kept_part part (next ∷ parts) h = refl
 
@@ -93,7 +93,7 @@ pub fields_nil : fields_of [] ≡ []
 unfolding fields_of
 fields_nil = refl
 
-kept_field : (part : List ℕ) (parts : List (List ℕ)) → 0 < length part
+pub kept_field : (part : List ℕ) (parts : List (List ℕ)) → 0 < length part
     → filter (λ part. not (is_empty part)) (part ∷ parts) ≡ part ∷ filter (λ part. not (is_empty part)) parts
 kept_field [] parts h = absurd (omega arith)
 kept_field (b ∷ bs) parts h = refl

@@ -1,6 +1,6 @@
 -- The canonical text of a document.
-use Rattle.std.specs.Prelude.{ℕ, List, [], ◌∷◌, ◌++◌, codes, if◌then◌else◌, slice_index_or}
-use Rattle.std.specs.List.{flat_map}
+use Rattle.std.specs.Prelude.{ℕ, List, [], ◌∷◌, ◌++◌, map, codes, if◌then◌else◌, slice_index_or}
+use Rattle.std.specs.List.{flat_map, join_with_byte}
 use Rattle.std.specs.Fmt.{decimal}
 use Rattle.npp_net.specs.declared.types.NodeId.{NodeId}
 use Rattle.npp_net.specs.declared.types.NetArc.{NetArc}
@@ -11,25 +11,35 @@ use Rattle.npp_reader.specs.declared.document.Document.{Document}
 abbrev pub name_of : List (List ℕ) → NodeId → List ℕ
 name_of names node = slice_index_or names node.0 []
 
--- the line of a node
-abbrev pub node_line : List ℕ → List ℕ
-node_line name = codes "node " ++ name ++ 10 ∷ []
+-- the fields of the first line
+abbrev pub header_fields : List (List ℕ)
+header_fields = codes "npp" ∷ codes "1" ∷ []
 
--- a word, two names and a number
-abbrev pub link_line : List ℕ → List ℕ → List ℕ → ℕ → List ℕ
-link_line word from to number = word ++ codes " " ++ from ++ codes " " ++ to ++ codes " " ++ decimal number ++ 10 ∷ []
+-- the fields of a node's line
+abbrev pub node_fields : List ℕ → List (List ℕ)
+node_fields name = codes "node" ∷ name ∷ []
 
--- the line of an arc
-abbrev pub arc_line : List (List ℕ) → NetArc → List ℕ
-arc_line names x = link_line (if x.toll then codes "toll" else codes "free") (name_of names x.tail) (name_of names x.head) x.cost
+-- the fields of an arc's line
+abbrev pub arc_fields : List (List ℕ) → NetArc → List (List ℕ)
+arc_fields names x =
+    (if x.toll then codes "toll" else codes "free") ∷ name_of names x.tail ∷ name_of names x.head ∷ decimal x.cost ∷ []
 
--- the line of a commodity
-abbrev pub pair_line : List (List ℕ) → Commodity → List ℕ
-pair_line names k = link_line (codes "pair") (name_of names k.origin) (name_of names k.destination) k.demand
+-- the fields of a commodity's line
+abbrev pub pair_fields : List (List ℕ) → Commodity → List (List ℕ)
+pair_fields names k = codes "pair" ∷ name_of names k.origin ∷ name_of names k.destination ∷ decimal k.demand ∷ []
 
--- the header, the nodes, the arcs and the commodities, each in order, with single spaces and a line feed after each line
+-- the header, the nodes, the arcs and the commodities, each in order
+unfoldable pub canonical_lines : Document → List (List (List ℕ))
+canonical_lines document =
+    header_fields
+    ∷ (map node_fields document.names
+    ++ (map (arc_fields document.names) document.instance.arcs
+    ++ map (pair_fields document.names) document.instance.commodities))
+
+-- the fields with one space between each two, and a line feed, which is 10
+abbrev pub line_of : List (List ℕ) → List ℕ
+line_of fields = join_with_byte 32 fields ++ 10 ∷ []
+
+-- the lines one after another
 unfoldable pub canonical_text : Document → List ℕ
-canonical_text document =
-    codes "npp 1" ++ 10 ∷ (flat_map node_line document.names
-    ++ flat_map (arc_line document.names) document.instance.arcs
-    ++ flat_map (pair_line document.names) document.instance.commodities)
+canonical_text document = flat_map line_of (canonical_lines document)

@@ -1,7 +1,9 @@
 //! What the lines above a line declare.
 
 ghost use Rattle.std.specs.Prelude.{◌≡◌, ◌≤◌, ℕ, List, ◌∷◌, length, Ok, Err, OnOk, IfOk, IfErr};
+ghost use Rattle.npp_net.specs.Network.{IsNetwork};
 ghost use Rattle.npp_reader.specs.Lines.{fields_of};
+ghost use Rattle.npp_reader.specs.Names.{AreNames};
 ghost use Rattle.npp_reader.specs.Grammar.{nothing, after_line, after_fields, after_header, after_node, after_arc, after_pair, after_word};
 ghost use Rattle.npp_reader.specs.Reading.{at_end};
 ghost use Rattle.npp_reader.specs.Taking.{IfKind, IsWithin};
@@ -187,6 +189,9 @@ impl Draft {
     pub(crate) fn finish(self, alloc: Global) -> Result<Document, Fault>
         requires within { IsWithin self }
         ensures document { IfOk result (λ document. at_end self ≡ Ok document) }
+        ensures limits { IfOk result (λ document. IsNetwork document.instance) }
+        ensures names { IfOk result (λ document. AreNames document.names) }
+        ensures count { IfOk result (λ document. length document.names ≡ document.instance.nodes) }
         ensures fault { IfErr result (IfKind (λ kind. at_end self ≡ Err kind)) }
     {
         let Draft {

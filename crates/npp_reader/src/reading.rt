@@ -1,6 +1,8 @@
 //! Reading a text.
 
-ghost use Rattle.std.specs.Prelude.{◌≡◌, ◌⊎◌, Err};
+ghost use Rattle.std.specs.Prelude.{◌≡◌, ◌⊎◌, Err, length, IfOk};
+ghost use Rattle.npp_net.specs.Network.{IsNetwork};
+ghost use Rattle.npp_reader.specs.Names.{AreNames};
 ghost use Rattle.npp_reader.specs.Reading.{reading_of};
 
 use crate::document::Document;
@@ -16,7 +18,10 @@ use std::alloc::Global;
 /// line is `npp 1`; the lines after it are `node NAME`, `free TAIL HEAD COST`, `toll TAIL HEAD COST` and
 /// `pair ORIGIN DESTINATION DEMAND`, in any order that declares each name before it is used.
 pub fn read(alloc: Global, bytes: &[u8]) -> Result<Document, ReadRefusal>
-    ensures { (result ≡ Err ReadRefusal.Memory) ⊎ (result ≡ reading_of bytes.now) }
+    ensures answer { (result ≡ Err ReadRefusal.Memory) ⊎ (result ≡ reading_of bytes.now) }
+    ensures limits { IfOk result (λ document. IsNetwork document.instance) }
+    ensures names { IfOk result (λ document. AreNames document.names) }
+    ensures count { IfOk result (λ document. length document.names ≡ document.instance.nodes) }
 {
     let mut draft = Draft::new(alloc);
     let mut rest = bytes;

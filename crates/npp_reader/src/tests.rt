@@ -1,6 +1,6 @@
 //! Worked examples.
 
-use crate::{Document, LineKind, Names, ReadRefusal, print, read};
+use crate::{Document, LineKind, Names, print, read};
 use npp_net::NodeId;
 use std::alloc::{AllocError, Global};
 use std::process::Abort;
@@ -75,4 +75,79 @@ fn reads_and_refuses(rt: HostRuntime) -> Result<(), Fail> {
     }
     expect_answer(&rt, rt.alloc(), b"# \xff\n", "line 1: Utf8")?;
     Ok(())
+}
+
+/// The header and so many nodes.
+fn many_nodes(alloc: Global, count: u32) -> Result<String, AllocError> {
+    let mut text = String::from_str(alloc, "npp 1\n")?;
+    for number in 0..count {
+        write!(text, "node {number}\n")?;
+    }
+    Ok(text)
+}
+
+/// The header, two nodes and so many equal lines.
+fn many_lines(alloc: Global, line: &str, count: u32) -> Result<String, AllocError> {
+    let mut text = many_nodes(alloc, 2)?;
+    for _ in 0..count {
+        text.push_str(line)?;
+    }
+    Ok(text)
+}
+
+/// A line of 4,194,304 bytes.
+fn long_line(alloc: Global) -> Result<String, AllocError> {
+    let mut text = String::from_str(alloc, "x")?;
+    for _ in 0..22 {
+        let copy = text.clone()?;
+        text.push_str(copy.as_str())?;
+    }
+    Ok(text)
+}
+
+#[test]
+fn refuses_past_the_limits(rt: HostRuntime) -> Result<(), Fail> {
+    let alloc = rt.alloc();
+    expect_answer(
+        &rt,
+        alloc,
+        many_nodes(alloc, 1000)?.as_bytes(),
+        "line 1002: NoCommodity",
+    )?;
+    expect_answer(
+        &rt,
+        alloc,
+        many_nodes(alloc, 1001)?.as_bytes(),
+        "line 1002: TooManyNodes",
+    )?;
+    let cases = [
+        ("free 0 1 7\n", 5001, "line 5004: TooManyArcs"),
+        ("toll 0 1 7\n", 65, "line 68: TooManyTolls"),
+        ("pair 0 1 7\n", 101, "line 104: TooManyCommodities"),
+    ];
+    for (line, count, want) in cases {
+        expect_answer(&rt, alloc, many_lines(alloc, line, count)?.as_bytes(), want)?;
+    }
+    expect_answer(&rt, alloc, long_line(alloc)?.as_bytes(), "line 1: Header")?;
+    Ok(())
+}
+
+#[test]
+fn takes_names(rt: HostRuntime) -> Result<(), Fail> {
+    let alloc = rt.alloc();
+    let mut texts = Vec::new(alloc);
+    texts.push(String::from_str(alloc, "a")?)?;
+    texts.push(String::from_str(alloc, "b-2")?)?;
+    let names = Names::new(alloc, texts)?;
+    assert_eq!(rt; names.len(), 2);
+    assert!(rt; !names.is_empty());
+    assert_eq!(rt; names.name(NodeId(1)), "b-2");
+    assert_eq!(rt; names.find("b-2"), Some(NodeId(1)));
+    assert_eq!(rt; names.find("c"), None);
+    Ok(())
+}
+
+#[test]
+fn names_kinds(rt: HostRuntime) {
+    assert_eq!(rt; LineKind::TooManyCommodities.word(), "TooManyCommodities");
 }

@@ -19,14 +19,14 @@ loop-rest-preserved c =
       line_within c.loop-rest.draft c.take.new.self c.loop-rest.invariant.2 c.split_line.result.0.now c.in_default.ensures.taken,
     )
 
-pub returns-in-Ok : goal.returns-in-Ok
-returns-in-Ok c =
+pub returns-in-Ok-clause-answer : goal.returns-in-Ok-clause-answer
+returns-in-Ok-clause-answer c =
     let none = none_left c.loop-rest.rest.now (grind (arith, nat_tests)) in
     inr (sym (reading_ends c.loop-rest.line c.loop-rest.draft c.in-Ok.document c.in-Ok.ensures.document)
     ∙ (ap (λ (bytes : List ℕ). reading_from c.loop-rest.line c.loop-rest.draft (lines_of bytes)) (sym none) ∙ c.loop-rest.invariant.0))
 
-pub returns-in-Err-finish : goal.returns-in-Err-finish
-returns-in-Err-finish c =
+pub returns-in-Err-finish-clause-answer : goal.returns-in-Err-finish-clause-answer
+returns-in-Err-finish-clause-answer c =
     let none = none_left c.loop-rest.rest.now (grind (arith, nat_tests)) in
     let back = ap (λ (bytes : List ℕ). reading_from c.loop-rest.line c.loop-rest.draft (lines_of bytes)) (sym none) ∙ c.loop-rest.invariant.0 in
     rw c.at-in-Err-finish.ensures
