@@ -1,4 +1,4 @@
-// The check of a dual answer.
+//! The check of a dual answer.
 
 ghost use Rattle.std.specs.Prelude.{◌≡◌, length, map, IfOk};
 ghost use Rattle.npp_frac.specs.Fits.{limit_of};

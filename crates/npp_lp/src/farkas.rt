@@ -1,4 +1,4 @@
-// The check of a Farkas answer.
+//! The check of a Farkas answer.
 
 ghost use Rattle.std.specs.Prelude.{◌≡◌, length, map, OnOk};
 ghost use Rattle.npp_frac.specs.Fits.{limit_of};

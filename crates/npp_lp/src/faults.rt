@@ -1,4 +1,4 @@
-// Why an answer of a linear program is refused.
+//! Why an answer of a linear program is refused.
 
 ghost use Rattle.std.specs.Prelude.{◌≡◌};
 

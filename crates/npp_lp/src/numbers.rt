@@ -1,4 +1,4 @@
-// Tests of numbers.
+//! Tests of numbers.
 
 ghost use Rattle.std.specs.Prelude.{◌≡◌, ◌↔◌, ◌<◌, ◌^◌, IsTrue, length, map};
 ghost use Rattle.npp_frac.specs.Rational.{zero_ℚ, is_less};

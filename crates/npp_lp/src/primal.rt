@@ -1,4 +1,4 @@
-// The check of a point.
+//! The check of a point.
 
 ghost use Rattle.std.specs.Prelude.{◌≡◌, length, map, IfOk, OnOk};
 ghost use Rattle.npp_frac.specs.Fits.{limit_of};

@@ -1,4 +1,4 @@
-// Linear programs over exact fractions.
+//! Linear programs over exact fractions.
 
 /// The coefficient of a row in a column.
 #[derive(Clone, Copy, Debug)]

@@ -1,4 +1,4 @@
-// Sums of products, each operation checked in turn.
+//! Sums of products, each operation checked in turn.
 
 ghost use Rattle.std.specs.Prelude.{◌≡◌, ◌<◌, length, map, All, MatchOption};
 ghost use Rattle.std.specs.List.{AllPairs};

@@ -1,4 +1,4 @@
-// Worked examples.
+//! Worked examples.
 
 ghost use Rattle.std.specs.Prelude.{◌≡◌, ◌≢◌, ◌<◌, ◌^◌, [], ◌∷◌, nat_abs, length, IfOk};
 ghost use Rattle.npp_frac.specs.Rational.{zero_ℚ};
