@@ -40,6 +40,7 @@ pub fn quotient(a: i128, by: u128) -> i128
     if by == 1 { a } else { truncated(a, by) }
 }
 
+/// The same by the division of the machine, which is slower where `by` is 1.
 fn truncated(a: i128, by: u128) -> i128
     requires positive { 0 < by }
     requires below { by < 2 ^ 127 }
@@ -89,7 +90,7 @@ pub fn scaled(a: i128, b: u128, limit: u128) -> Option<i128>
     requires limit { limit ≤ 2 ^ 127 }
     ensures { SomeIff result (nat_abs (a *ℤ pos b) < limit) (a *ℤ pos b) }
 {
-    let exact = a.checked_mul(b as i128)?;
+    let exact = if b == 1 { a } else { a.checked_mul(b as i128)? };
     if size(exact) < limit {
         Some(exact)
     } else {
@@ -116,6 +117,6 @@ pub fn unsigned_product(a: u128, b: u128, limit: u128) -> Option<u128>
     ensures product { SomeIff result (a * b < limit) (a * b) }
     ensures positive { IfSome result (λ p. 0 < p) }
 {
-    let exact = a.checked_mul(b)?;
+    let exact = if b == 1 { a } else { a.checked_mul(b)? };
     if exact < limit { Some(exact) } else { None }
 }

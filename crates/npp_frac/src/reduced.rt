@@ -4,7 +4,7 @@ ghost use Rattle.std.specs.Prelude.{◌≡◌, ◌<◌, ◌^◌, nat_abs};
 ghost use Rattle.npp_frac.specs.Gcd.{gcd as gcd_of};
 
 /// A numerator and a positive denominator without a common factor, both below `2^127` in size.
-#[derive(Clone, Copy, Debug)]
+#[derive(Clone, Copy, Debug, PartialEq, Eq)]
 pub struct Reduced {
     pub num: i128,
     pub den: u128,
