@@ -1,0 +1,4 @@
+pub mod Printed
+pub mod Report
+pub mod Taken
+pub mod Words

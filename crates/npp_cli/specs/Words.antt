@@ -1,0 +1,51 @@
+-- Which job the words of the command line ask for.
+use Rattle.std.specs.Prelude.{◌≡◌, ℕ, ◌+◌, ◌-◌, ◌*◌, ◌&&◌, ◌||◌, ◌==◌, Bool, List, [], ◌∷◌, length, map, fold, nat_eq, nat_lt, nat_le, Option, Some, None, if◌then◌else◌, string_bytes, String, codes}
+use Rattle.std.specs.List.{list_all, starts_with}
+use Rattle.std.specs.Option.{option_map}
+use Rattle.std.specs.Cmp.Lexicographic.{pointwise}
+use Rattle.std.specs.declared.alloc.Global.{Global}
+use Rattle.npp_cli.specs.declared.words.Command.{Command}
+use Rattle.npp_cli.specs.declared.words.Command.TheVariants.{OnFile, Generate}
+use Rattle.npp_cli.specs.declared.words.FileJob.{FileJob}
+use Rattle.npp_cli.specs.declared.words.FileJob.TheVariants.{Solve, Bounds}
+
+-- a job, with the name of its file or its number
+pub data Job : Type 0 where
+  on_file : FileJob → List ℕ → Job
+  generate : ℕ → Job
+
+-- the job that a command stands for
+abbrev pub job_meant : Command → Job
+job_meant (OnFile job file) = on_file job file.now
+job_meant (Generate number) = generate number
+
+-- the bytes of each word
+abbrev pub texts : List (String Global) → List (List ℕ)
+texts words = map string_bytes words
+
+-- a decimal digit
+abbrev pub is_digit : ℕ → Bool
+is_digit b = nat_le 48 b && nat_le b 57
+
+-- the value of decimal digits
+abbrev pub value_of_digits : List ℕ → ℕ
+value_of_digits digits = fold (λ n d. 10 * n + (d - 48)) 0 digits
+
+-- the number that one to six decimal digits stand for
+abbrev pub number_of : List ℕ → Option ℕ
+number_of text =
+    if nat_le 1 (length text) && nat_le (length text) 6 && list_all is_digit text
+    then Some (value_of_digits text) else None
+
+-- the job of this name for this word
+abbrev pub job_named : List ℕ → List ℕ → Option Job
+job_named job first =
+    if pointwise nat_eq job (codes "solve") then Some (on_file Solve first)
+    else (if pointwise nat_eq job (codes "bounds") then Some (on_file Bounds first)
+    else (if pointwise nat_eq job (codes "gen") then option_map generate (number_of first)
+    else None))
+
+-- the job that the words ask for: after the program's name a job and one word, which does not begin with a dash
+abbrev pub job_of : List (List ℕ) → Option Job
+job_of (program ∷ job ∷ first ∷ []) = if starts_with nat_eq first (codes "-") then None else job_named job first
+job_of words = None

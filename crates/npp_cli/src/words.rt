@@ -1,0 +1,71 @@
+//! The words of the command line, and the job that they ask for.
+ghost use Rattle.std.specs.Prelude.{◌≡◌, ℕ, MatchOption, None, Some, map, string_bytes};
+ghost use Rattle.npp_cli.specs.Words.{job_of, job_meant, number_of, texts};
+
+/// What is asked of the instance in a file.
+#[derive(Clone, Copy, Debug, PartialEq, Eq)]
+pub enum FileJob {
+    /// Tolls, a cheapest walk for each commodity, and what bounds the revenue from both sides.
+    Solve,
+    /// The two least costs of each commodity, and the basic bound.
+    Bounds,
+}
+
+/// A job, with the word that says for what it is done.
+#[derive(Clone, Copy)]
+pub enum Command<'w> {
+    /// A job for the file of this name.
+    OnFile(FileJob, &'w str),
+    /// The generated instance of this number.
+    Generate(u32),
+}
+
+/// The job that the words ask for, the program's own name being the first of them. None where they ask for none.
+pub fn command_of(words: &[String]) -> Option<Command<'_>>
+    ensures {
+        MatchOption
+            result
+            (job_of (texts words.now) ≡ None)
+            (λ command. job_of (texts words.now) ≡ Some (job_meant command))
+    }
+{
+    if words.len() != 3 {
+        return None;
+    }
+    let job = words[1].as_str();
+    let first = words[2].as_str();
+    if first.as_bytes().starts_with(b"-") {
+        return None;
+    }
+    if job == "solve" {
+        return Some(Command::OnFile(FileJob::Solve, first));
+    }
+    if job == "bounds" {
+        return Some(Command::OnFile(FileJob::Bounds, first));
+    }
+    if job == "gen" {
+        return match number_of(first) {
+            Some(number) => Some(Command::Generate(number)),
+            None => None,
+        };
+    }
+    None
+}
+
+// The number of one to six decimal digits.
+fn number_of(text: &str) -> Option<u32>
+    ensures { result ≡ number_of text.now }
+{
+    let digits = text.as_bytes();
+    if digits.is_empty() || digits.len() > 6 {
+        return None;
+    }
+    let mut number = 0;
+    for digit in digits {
+        if !digit.is_ascii_digit() {
+            return None;
+        }
+        number = 10 * number + u32::from(*digit - b'0');
+    }
+    Some(number)
+}
