@@ -1,4 +1,11 @@
 pub mod Printed
-pub mod Report
-pub mod Taken
+pub mod Texts
 pub mod Words
+pub mod Headline
+pub mod SpansText
+pub mod Answers
+pub mod Taken
+pub mod Report
+pub mod Answer
+pub mod Plain
+pub mod Runs

@@ -1,6 +1,12 @@
 //! The program: the words of the command line in, a text and a status out, over any shelf and any sink.
 #![tactic(auto)]
 
+mod answers;
+mod program;
 mod report;
+mod solve;
+mod spans;
 mod take;
 mod words;
+
+pub use program::run;

@@ -1,5 +1,5 @@
 //! A file is taken by pieces, from its beginning on, until a piece has no bytes.
-ghost use Rattle.std.specs.Prelude.{◌≡◌, ◌<◌, ◌≤◌, ◌^◌, ℕ, length};
+ghost use Rattle.std.specs.Prelude.{◌≡◌, ◌<◌, ◌≤◌, ◌^◌, ℕ, IfOk, length};
 ghost use Rattle.npp_cli.specs.Taken.{Takes, HasTakeCause};
 
 use npp_outside::{Shelf, ShelfAnswer};
@@ -32,6 +32,7 @@ pub fn take_file<S: Shelf>(
 ) -> Result<Vec<u8>, TakeRefusal>
     requires { limit < 2 ^ 48 }
     ensures held { S.held shelf.new ≡ S.held shelf.old }
+    ensures within { IfOk result (λ bytes. length bytes.items ≤ limit) }
     ensures bytes { Takes limit (S.held shelf.old) name.now result }
     ensures cause { HasTakeCause (S.faults shelf.old) (S.faults shelf.new) (S.misses shelf.old) (S.misses shelf.new) result }
 {

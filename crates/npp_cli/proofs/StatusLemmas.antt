@@ -1,0 +1,67 @@
+-- Which statuses an answer may have.
+use Rattle.std.proofs.Common.{◌≡◌, ◌≢◌, ℕ, List, Bool, true, false, if◌then◌else◌, Option, None, Some, Result, Ok, Err, MatchResult, sym, ◌∙◌, arith}
+use Rattle.npp_outside.specs.Shelf.{Files}
+use Rattle.npp_net.specs.Network.{Network}
+use Rattle.npp_reader.specs.declared.document.Document.{Document}
+use Rattle.npp_reader.specs.declared.refusal.ReadRefusal.{ReadRefusal}
+use Rattle.npp_reader.specs.declared.refusal.ReadRefusal.TheVariants.{Line, Memory}
+use Rattle.npp_reader.specs.Reading.{reading_of}
+use Rattle.npp_cli.specs.declared.words.FileJob.{FileJob}
+use Rattle.npp_cli.specs.declared.words.FileJob.TheVariants.{Solve, Bounds}
+use Rattle.npp_cli.specs.Words.{Job, on_file, generate, job_of}
+use Rattle.npp_cli.specs.Answers.{IsDone, AnswersInstance, AnswersFault, AnswersBytes, AnswersFile, AnswersJob, Answers}
+
+-- none of the statuses of an answer about the bytes of a file
+pub record IsOther (n : ℕ) : Type 0 where
+  pub not_0 : n ≢ 0
+  pub not_1 : n ≢ 1
+  pub not_3 : n ≢ 3
+  pub not_10 : n ≢ 10
+
+optimal_status : (n status : ℕ) → IsOther n → status ≡ n → (optimal : Bool) → status ≡ (if optimal then 0 else 1) → ⊥
+optimal_status n status other is true e = other.not_0 (sym is ∙ e)
+optimal_status n status other is false e = other.not_1 (sym is ∙ e)
+
+done_status : (n status : ℕ) → IsOther n → status ≡ n → (job : FileJob) (net : Network) (text : List ℕ) → IsDone job net status text → ⊥
+done_status n status other is Solve net text done = optimal_status n status other is done.report.optimal done.is_status
+done_status n status other is Bounds net text done = other.not_0 (sym is ∙ done.is_status)
+
+read_status : (n status : ℕ) → IsOther n → status ≡ n → (job : FileJob) (text : List ℕ) (r : Result Document ReadRefusal)
+    → MatchResult r (λ document. (status ≢ 3) × AnswersInstance job document.instance status text) (λ fault. AnswersFault fault status text) → ⊥
+read_status n status other is job text (Ok document) answers =
+    done_status n status other is job document.instance text (answers.1.done (λ ten. other.not_10 (sym is ∙ ten))).1
+read_status n status other is job text (Err (Line number kind)) answers = other.not_3 (sym is ∙ answers.0)
+read_status n status other is job text (Err Memory) answers = absurd answers
+
+pub bytes_status : (n status : ℕ) → IsOther n → status ≡ n → (job : FileJob) (bytes text : List ℕ) → AnswersBytes job bytes status text → ⊥
+bytes_status n status other is job bytes text answers = read_status n status other is job text (reading_of bytes) answers
+
+pub other_2 : IsOther 2
+other_2 = record { not_0 = λ e. omega (arith, e); not_1 = λ e. omega (arith, e); not_3 = λ e. omega (arith, e); not_10 = λ e. omega (arith, e) }
+
+pub other_4 : IsOther 4
+other_4 = record { not_0 = λ e. omega (arith, e); not_1 = λ e. omega (arith, e); not_3 = λ e. omega (arith, e); not_10 = λ e. omega (arith, e) }
+
+pub other_5 : IsOther 5
+other_5 = record { not_0 = λ e. omega (arith, e); not_1 = λ e. omega (arith, e); not_3 = λ e. omega (arith, e); not_10 = λ e. omega (arith, e) }
+
+pub other_6 : IsOther 6
+other_6 = record { not_0 = λ e. omega (arith, e); not_1 = λ e. omega (arith, e); not_3 = λ e. omega (arith, e); not_10 = λ e. omega (arith, e) }
+
+pub other_7 : IsOther 7
+other_7 = record { not_0 = λ e. omega (arith, e); not_1 = λ e. omega (arith, e); not_3 = λ e. omega (arith, e); not_10 = λ e. omega (arith, e) }
+
+pub other_12 : IsOther 12
+other_12 = record { not_0 = λ e. omega (arith, e); not_1 = λ e. omega (arith, e); not_3 = λ e. omega (arith, e); not_10 = λ e. omega (arith, e) }
+
+-- none of the statuses of the shelf
+pub record IsNoShelfStatus (n : ℕ) : Type 0 where
+  pub not_4 : n ≢ 4
+  pub not_5 : n ≢ 5
+  pub not_12 : n ≢ 12
+
+pub file_status : (n status : ℕ) → IsOther n → IsNoShelfStatus n → status ≡ n
+    → (job : FileJob) (held : Option Files) (name text : List ℕ) → AnswersFile job held name status text → ⊥
+file_status n status other none is job held name text answers =
+    let taken = answers.taken (λ e. none.not_4 (sym is ∙ e)) (λ e. none.not_5 (sym is ∙ e)) (λ e. none.not_12 (sym is ∙ e)) in
+    bytes_status n status other is job taken.0 text taken.3

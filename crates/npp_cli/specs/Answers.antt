@@ -1,0 +1,92 @@
+-- Which status and which text answer the words, given what the shelf holds.
+use Rattle.std.specs.Prelude.{◌≡◌, ◌≢◌, ⊤, ℕ, ◌<◌, ◌≤◌, List, length, Option, None, Some, MatchOption, MatchResult, if◌then◌else◌}
+use Rattle.npp_outside.specs.Shelf.{Files, file_at}
+use Rattle.npp_net.specs.declared.types.Span.{Span}
+use Rattle.npp_net.specs.Network.{Network}
+use Rattle.npp_reader.specs.declared.refusal.ReadRefusal.{ReadRefusal}
+use Rattle.npp_reader.specs.declared.refusal.ReadRefusal.TheVariants.{Line, Memory}
+use Rattle.npp_reader.specs.Kind.{kind_word}
+use Rattle.npp_reader.specs.Reading.{reading_of}
+use Rattle.npp_bounds.specs.declared.refusal.BoundsRefusal.TheVariants.{NoFreePath}
+use Rattle.npp_bounds.specs.Spans.{AreSpans, AllHaveFreePaths, IsBoundsRefusal, basic}
+use Rattle.npp_cli.specs.declared.words.FileJob.{FileJob}
+use Rattle.npp_cli.specs.declared.words.FileJob.TheVariants.{Solve, Bounds}
+use Rattle.npp_cli.specs.Words.{Job, on_file, generate, job_of}
+use Rattle.npp_cli.specs.Printed.{PrintedReport, report_text}
+use Rattle.npp_cli.specs.Headline.{IsReportOf}
+use Rattle.npp_cli.specs.SpansText.{spans_text}
+use Rattle.npp_cli.specs.Texts.{usage_text, missing_text, shelf_fault_text, too_long_text, faulty_line_text, no_free_path_text}
+
+-- how many bytes an instance file may have
+abbrev pub instance_limit : ℕ
+instance_limit = 4194304
+
+-- a report of the instance, with status 0 where it is optimal and 1 where it is not
+pub record IsSolved (net : Network) (status : ℕ) (text : List ℕ) : Type 0 where
+  pub report : PrintedReport
+  pub is_report : IsReportOf net report
+  pub is_text : text ≡ report_text report
+  pub is_status : status ≡ (if report.optimal then 0 else 1)
+
+-- the least costs of each commodity and the basic bound, with status 0
+pub record IsBounded (net : Network) (status : ℕ) (text : List ℕ) : Type 0 where
+  pub spans : List Span
+  pub are_spans : AreSpans net.arcs net.commodities spans
+  pub is_text : text ≡ spans_text spans (basic net.commodities spans)
+  pub is_status : status ≡ 0
+
+-- what a job says of an instance
+abbrev pub IsDone : FileJob → Network → ℕ → List ℕ → Type 0
+IsDone Solve net status text = IsSolved net status text
+IsDone Bounds net status text = IsBounded net status text
+
+-- the first commodity that has no toll-free walk is named with status 10; where each has one, the job is done
+pub record AnswersInstance (job : FileJob) (net : Network) (status : ℕ) (text : List ℕ) : Type 0 where
+  pub refused : status ≡ 10 → (k : ℕ) × IsBoundsRefusal net.arcs net.commodities (NoFreePath k) × (text ≡ no_free_path_text k)
+  pub done : status ≢ 10 → AllHaveFreePaths net.arcs net.commodities × IsDone job net status text
+
+-- the first faulty line is named with status 3
+abbrev pub AnswersFault : ReadRefusal → ℕ → List ℕ → Type 0
+AnswersFault (Line number kind) status text = (status ≡ 3) × (text ≡ faulty_line_text number (kind_word kind))
+AnswersFault Memory status text = ⊥
+
+-- the answer about the bytes of an instance file
+abbrev pub AnswersBytes : FileJob → List ℕ → ℕ → List ℕ → Type 0
+AnswersBytes job bytes status text =
+    MatchResult (reading_of bytes)
+        (λ document. (status ≢ 3) × AnswersInstance job document.instance status text)
+        (λ fault. AnswersFault fault status text)
+
+-- a file of this name is held nowhere, where the shelf tells what it holds
+abbrev pub IsNotHeld : Option Files → List ℕ → Type 0
+IsNotHeld None name = ⊤
+IsNotHeld (Some files) name = file_at files name ≡ None
+
+-- the file of this name has these bytes, where the shelf tells what it holds
+abbrev pub IsHeld : Option Files → List ℕ → List ℕ → Type 0
+IsHeld None name bytes = ⊤
+IsHeld (Some files) name bytes = file_at files name ≡ Some bytes
+
+-- the file of this name has more bytes than the limit, where the shelf tells what it holds
+abbrev pub IsHeldTooLong : Option Files → List ℕ → Type 0
+IsHeldTooLong None name = ⊤
+IsHeldTooLong (Some files) name = MatchOption (file_at files name) ⊥ (λ bytes. instance_limit < length bytes)
+
+-- the answer to a job for a file: 4 where it is missing, 5 where the shelf failed, 12 where it is too long,
+-- and else that about its bytes
+pub record AnswersFile (job : FileJob) (held : Option Files) (name : List ℕ) (status : ℕ) (text : List ℕ) : Type 0 where
+  pub missing : status ≡ 4 → IsNotHeld held name × (text ≡ missing_text name)
+  pub failed : status ≡ 5 → text ≡ shelf_fault_text name
+  pub too_long : status ≡ 12 → IsHeldTooLong held name × (text ≡ too_long_text name)
+  pub taken : status ≢ 4 → status ≢ 5 → status ≢ 12
+      → (bytes : List ℕ) × IsHeld held name bytes × (length bytes ≤ instance_limit) × AnswersBytes job bytes status text
+
+-- words that ask for no job are answered by the usage text, with status 2
+abbrev pub AnswersJob : Option Job → Option Files → ℕ → List ℕ → Type 0
+AnswersJob None held status text = (status ≡ 2) × (text ≡ usage_text)
+AnswersJob (Some (on_file job name)) held status text = (status ≢ 2) × AnswersFile job held name status text
+AnswersJob (Some (generate number)) held status text = ⊥
+
+-- the answer to the words
+abbrev pub Answers : List (List ℕ) → Option Files → ℕ → List ℕ → Type 0
+Answers words held status text = AnswersJob (job_of words) held status text

@@ -1,0 +1,34 @@
+-- The texts of refusals.
+use Rattle.std.specs.Prelude.{ℕ, List, [], ◌∷◌, ◌++◌, codes}
+use Rattle.std.specs.Fmt.{decimal}
+use Rattle.npp_cli.specs.Printed.{line}
+
+abbrev pub usage_text : List ℕ
+usage_text =
+    line (codes "usage: npp solve FILE [--budget N] [--cuts N] [--numbers W] [--brief]")
+    ++ line (codes "       npp check FILE CERTIFICATE")
+    ++ line (codes "       npp bounds FILE")
+    ++ line (codes "       npp paths FILE")
+    ++ line (codes "       npp eval FILE TOLLS")
+    ++ line (codes "       npp gen NUMBER")
+    ++ line (codes "       npp demo NUMBER [--budget N] [--cuts N] [--numbers W]")
+
+-- of a file that is not there
+abbrev pub missing_text : List ℕ → List ℕ
+missing_text name = line (codes "missing " ++ name)
+
+-- of a file at which the shelf failed
+abbrev pub shelf_fault_text : List ℕ → List ℕ
+shelf_fault_text name = line (codes "shelf fault " ++ name)
+
+-- of a file that has more bytes than its limit
+abbrev pub too_long_text : List ℕ → List ℕ
+too_long_text name = line (codes "refused too-long " ++ name)
+
+-- of the first faulty line of an instance
+abbrev pub faulty_line_text : ℕ → List ℕ → List ℕ
+faulty_line_text number kind = line (codes "refused instance line " ++ decimal number ++ 32 ∷ kind)
+
+-- of the first commodity that has no toll-free walk
+abbrev pub no_free_path_text : ℕ → List ℕ
+no_free_path_text k = line (codes "refused no-free-path " ++ decimal k)

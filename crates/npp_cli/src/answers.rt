@@ -1,0 +1,73 @@
+//! What is answered: a status, and the text that is written with it.
+ghost use Rattle.std.specs.Prelude.{IfOk};
+ghost use Rattle.npp_cli.specs.Answer.{IsAnswer};
+ghost use Rattle.npp_cli.specs.Texts.{usage_text, missing_text, shelf_fault_text, too_long_text, faulty_line_text, no_free_path_text};
+
+use npp_net::Memory;
+use std::alloc::Global;
+
+const USAGE: &str = "usage: npp solve FILE [--budget N] [--cuts N] [--numbers W] [--brief]
+       npp check FILE CERTIFICATE
+       npp bounds FILE
+       npp paths FILE
+       npp eval FILE TOLLS
+       npp gen NUMBER
+       npp demo NUMBER [--budget N] [--cuts N] [--numbers W]
+";
+
+/// What the program ends with and writes.
+#[derive(Drop)]
+pub struct Answer {
+    /// The status that the program ends with.
+    pub status: u8,
+    /// All that it writes.
+    pub text: String,
+}
+
+/// The words ask for no job.
+pub fn usage(alloc: Global) -> Result<Answer, Memory>
+    ensures { IfOk result (IsAnswer 2 usage_text) }
+{
+    let text = String::from_str(alloc, USAGE)?;
+    Ok(Answer { status: 2, text })
+}
+
+/// The instance text has a faulty line, of which this is the first, and this the name of its fault.
+pub fn faulty_line(alloc: Global, line: u64, kind: &str) -> Result<Answer, Memory>
+    ensures { IfOk result (IsAnswer 3 (faulty_line_text line kind.now)) }
+{
+    let text = format!(in alloc; "refused instance line {line} {kind}\n")?;
+    Ok(Answer { status: 3, text })
+}
+
+/// The shelf has no file of this name.
+pub fn missing(alloc: Global, name: &str) -> Result<Answer, Memory>
+    ensures { IfOk result (IsAnswer 4 (missing_text name.now)) }
+{
+    let text = format!(in alloc; "missing {name}\n")?;
+    Ok(Answer { status: 4, text })
+}
+
+/// The shelf failed at the file of this name.
+pub fn shelf_fault(alloc: Global, name: &str) -> Result<Answer, Memory>
+    ensures { IfOk result (IsAnswer 5 (shelf_fault_text name.now)) }
+{
+    let text = format!(in alloc; "shelf fault {name}\n")?;
+    Ok(Answer { status: 5, text })
+}
+
+/// This is the first commodity that has no toll-free walk.
+pub fn no_free_path(alloc: Global, k: u32) -> Result<Answer, Memory>
+    ensures { IfOk result (IsAnswer 10 (no_free_path_text k)) }
+{
+    let text = format!(in alloc; "refused no-free-path {k}\n")?;
+    Ok(Answer { status: 10, text })
+}
+
+/// The file of this name has more bytes than its limit.
+pub fn too_long(alloc: Global, name: &str) -> Result<Answer, Memory>
+    ensures { IfOk result (IsAnswer 12 (too_long_text name.now)) }
+{
+    let text = format!(in alloc; "refused too-long {name}\n")?;
+    Ok(Answer { status: 12, text })
+}

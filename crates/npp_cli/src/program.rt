@@ -1,0 +1,82 @@
+//! The top call: the words are read, the job is done, and its text is written.
+ghost use Rattle.std.specs.Prelude.{◌≡◌, ℕ, length, IfOk, string_bytes};
+ghost use Rattle.npp_outside.specs.Causes.{Rose};
+ghost use Rattle.npp_cli.specs.Words.{texts};
+ghost use Rattle.npp_cli.specs.Answers.{Answers, AnswersFile, AnswersBytes, instance_limit};
+ghost use Rattle.npp_cli.specs.Runs.{Runs, HasAnswerCause};
+
+use crate::answers::{Answer, faulty_line, missing, shelf_fault, too_long, usage};
+use crate::solve::solve;
+use crate::spans::bounds;
+use crate::take::{TakeRefusal, take_file};
+use crate::words::{Command, FileJob, command_of};
+use npp_net::Memory;
+use npp_outside::{Shelf, Sink, SinkAnswer, write_whole};
+use npp_reader::{ReadRefusal, read};
+use std::alloc::Global;
+
+/// How many bytes an instance file may have.
+const INSTANCE_LIMIT: usize = 4_194_304;
+
+/// Does what the words ask, and answers the status with which the program ends.
+///
+/// The first word is the program's own name. Nothing is written before the answer is known, and then its text is all
+/// that is written.
+pub fn run<S: Shelf, O: Sink>(alloc: Global, words: &[String], shelf: &mut S, out: &mut O) -> u8
+    ensures held { S.held shelf.new ≡ S.held shelf.old }
+    ensures missing { result ≡ 4 → Rose (S.misses shelf.old) (S.misses shelf.new) }
+    ensures failed { result ≡ 5 → Rose (S.faults shelf.old) (S.faults shelf.new) }
+    ensures sink { result ≡ 6 → Rose (O.faults out.old) (O.faults out.new) }
+    ensures answer { Runs (texts words.now) (S.held shelf.old) (O.written out.old) (O.written out.new) result }
+{
+    match answer_to(alloc, words, shelf) {
+        Ok(answer) => match write_whole(out, answer.text.as_bytes()) {
+            Ok(()) => answer.status,
+            Err(SinkAnswer::Failed) => 6,
+            Err(SinkAnswer::Memory) => 7,
+        },
+        Err(Memory) => 7,
+    }
+}
+
+// The answer to the words.
+fn answer_to<S: Shelf>(alloc: Global, words: &[String], shelf: &mut S) -> Result<Answer, Memory>
+    ensures held { S.held shelf.new ≡ S.held shelf.old }
+    ensures answer { IfOk result (λ answer. Answers (texts words.now) (S.held shelf.old) answer.status (string_bytes answer.text)) }
+    ensures cause { IfOk result (λ answer. HasAnswerCause (S.faults shelf.old) (S.faults shelf.new) (S.misses shelf.old) (S.misses shelf.new) answer.status) }
+{
+    match command_of(words) {
+        None => usage(alloc),
+        Some(Command::OnFile(job, file)) => answer_on_file(alloc, job, file, shelf),
+        Some(Command::Generate(_)) => Err(Memory),
+    }
+}
+
+// The answer to a job for a file.
+fn answer_on_file<S: Shelf>(alloc: Global, job: FileJob, file: &str, shelf: &mut S) -> Result<Answer, Memory>
+    ensures held { S.held shelf.new ≡ S.held shelf.old }
+    ensures answer { IfOk result (λ answer. AnswersFile job (S.held shelf.old) file.now answer.status (string_bytes answer.text)) }
+    ensures cause { IfOk result (λ answer. HasAnswerCause (S.faults shelf.old) (S.faults shelf.new) (S.misses shelf.old) (S.misses shelf.new) answer.status) }
+{
+    match take_file(alloc, shelf, file, INSTANCE_LIMIT) {
+        Ok(bytes) => answer_on_bytes(alloc, job, &bytes),
+        Err(TakeRefusal::Missing) => missing(alloc, file),
+        Err(TakeRefusal::Failed) => shelf_fault(alloc, file),
+        Err(TakeRefusal::TooLong) => too_long(alloc, file),
+        Err(TakeRefusal::Memory) => Err(Memory),
+    }
+}
+
+// The answer to a job for the bytes of a file.
+fn answer_on_bytes(alloc: Global, job: FileJob, bytes: &[u8]) -> Result<Answer, Memory>
+    ensures { IfOk result (λ answer. AnswersBytes job bytes.now answer.status (string_bytes answer.text)) }
+{
+    match read(alloc, bytes) {
+        Ok(document) => match job {
+            FileJob::Solve => solve(alloc, &document.instance),
+            FileJob::Bounds => bounds(alloc, &document.instance),
+        },
+        Err(ReadRefusal::Line { line, kind }) => faulty_line(alloc, line, kind.word()),
+        Err(ReadRefusal::Memory) => Err(Memory),
+    }
+}
