@@ -1,4 +1,6 @@
 pub mod FileLemmas
+pub mod GeneratedNames
+pub mod Growth
 pub mod JobLemmas
 pub mod NumberedLines
 pub mod PlainLemmas

@@ -14,10 +14,6 @@ pub numbered_lines_more : {X : Type 0} (line_of : ℕ → X → List ℕ) (xs : 
 numbered_lines_more line_of xs i d lt =
     rw (take_more xs i d lt) (grind (arith, common_steps, numbered_lines-snoc line_of 0 (take i xs) (get_or xs i d)))
 
--- a text that has grown by some lines grows by more
-pub grown_by_more : (old done more all text new : List ℕ) → text ≡ old ++ done → new ≡ text ++ more → all ≡ done ++ more → new ≡ old ++ all
-grown_by_more old done more all text new before after joined = grind (arith, common_steps, append_assoc old done more)
-
 -- the same of the lines of what a list shows
 pub mapped_lines_more : {X Y : Type 0} (line_of : ℕ → Y → List ℕ) (shown : X → Y) (xs : List X) (i : ℕ) (d : X) → i < length xs
     → numbered_lines line_of 0 (map shown (take (i + 1) xs)) ≡ numbered_lines line_of 0 (map shown (take i xs)) ++ line_of i (shown (get_or xs i d))

@@ -1,6 +1,7 @@
 pub mod Printed
 pub mod Texts
 pub mod Words
+pub mod Generated
 pub mod Headline
 pub mod SpansText
 pub mod Answers

@@ -2,6 +2,7 @@
 #![tactic(auto)]
 
 mod answers;
+mod generator;
 mod program;
 mod report;
 mod solve;
@@ -9,4 +10,5 @@ mod spans;
 mod take;
 mod words;
 
+pub use generator::generate;
 pub use program::run;

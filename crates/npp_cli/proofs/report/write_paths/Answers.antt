@@ -1,6 +1,7 @@
 use Rattle.npp_cli.specs.Printed.{path_line}
 use Rattle.npp_cli.specs.Report.{printed_path}
-use Rattle.npp_cli.proofs.NumberedLines.{grown_by_more, mapped_lines_more}
+use Rattle.npp_cli.proofs.Growth.{grown_by_more}
+use Rattle.npp_cli.proofs.NumberedLines.{mapped_lines_more}
 use Rattle.npp_cli.proofs.report.write_paths.Goals as goal
 
 pub loop-k-preserved : goal.loop-k-preserved

@@ -1,6 +1,7 @@
 use Rattle.std.proofs.Common.{append_assoc}
 use Rattle.npp_cli.specs.Printed.{toll_line}
-use Rattle.npp_cli.proofs.NumberedLines.{grown_by_more, numbered_lines_more}
+use Rattle.npp_cli.proofs.Growth.{grown_by_more}
+use Rattle.npp_cli.proofs.NumberedLines.{numbered_lines_more}
 use Rattle.npp_cli.proofs.report.write_tolls.Goals as goal
 
 pub loop-number-preserved : goal.loop-number-preserved
