@@ -1,16 +1,13 @@
 -- The names of a generated instance are names, and differ.
-use Rattle.std.proofs.Common.{◌≡◌, ◌≢◌, ℕ, Bool, true, false, not, ◌&&◌, List, [], ◌∷◌, All, AllPairs, map, nat_eq, string_bytes, String, refl, sym, subst, length, get_or, ◌<◌}
-use Rattle.std.specs.Bool.{⊤}
+use Rattle.std.proofs.Common.{◌≡◌, ℕ, Bool, true, false, not, ◌&&◌, List, [], ◌∷◌, nat_eq, String, refl, sym, subst}
 use Rattle.std.specs.declared.alloc.Global.{Global}
 use Rattle.std.specs.List.{list_all, IsDistinct, AllByRecursion}
 use Rattle.std.specs.Fmt.{digits}
 use Rattle.std.specs.Cmp.Lexicographic.{pointwise, bytes_decides}
-use Rattle.std.proofs.lemmas.List.{length-map}
-use Rattle.std.proofs.Math.ListN.{get_or-map}
 use Rattle.std.proofs.lemmas.List.Sums.{AllPass-from_list_all}
 use Rattle.std.proofs.lemmas.Map.Made.{AllPairs-from_IsDistinct}
 use Rattle.npp_reader.specs.Fields.{is_name}
-use Rattle.npp_reader.specs.Names.{texts}
+use Rattle.npp_reader.specs.Names.{AreNames, texts}
 use Rattle.npp_cli.specs.Generated.{generated_names}
 
 are_names : list_all is_name generated_names ≡ true
@@ -53,16 +50,11 @@ distinct_of (name ∷ names) distinct =
     let parts = both (is_fresh name names) (are_distinct names) distinct in
     (fresh_of name names parts.0, distinct_of names parts.1)
 
-generated_differ : AllPairs (λ x y. x ≢ y) generated_names
-generated_differ = AllPairs-from_IsDistinct bytes_decides generated_names (distinct_of generated_names names_are_distinct)
+generated_are_names : AreNames generated_names
+generated_are_names = record {
+  each = AllPass-from_list_all is_name generated_names are_names;
+  differ = AllPairs-from_IsDistinct bytes_decides generated_names (distinct_of generated_names names_are_distinct);
+}
 
-pub texts_differ : (names : List (String Global)) → texts names ≡ generated_names → AllPairs (λ x y. x ≢ y) (texts names)
-texts_differ names are = let Differ : List (List ℕ) → Type 0 = AllPairs (λ x y. x ≢ y) in subst Differ (sym are) generated_differ
-
-pub texts_are_names : (names : List (String Global)) → texts names ≡ generated_names → All (λ name. is_name (string_bytes name) ≡ true) names
-texts_are_names names are k d lt =
-    let Named : List (List ℕ) → Type 0 = All (λ name. is_name name ≡ true) in
-    let all : Named (texts names) = subst Named (sym are) (AllPass-from_list_all is_name generated_names are_names) in
-    let within : k < length (texts names) = rw (length-map string_bytes names) lt in
-    let named = all k (string_bytes d) within in
-    rw (get_or-map string_bytes names k d) at named
+pub texts_are_names : (names : List (String Global)) → texts names ≡ generated_names → AreNames (texts names)
+texts_are_names names are = subst AreNames (sym are) generated_are_names

@@ -1,9 +1,9 @@
 -- A list that grows element by element.
-use Rattle.std.proofs.Common.{◌≡◌, ℕ, zero, suc, add-zero, add-one, zero-add, String, string_bytes, ◌+◌, ◌<◌, List, [], ◌∷◌, ◌++◌, length, take, map, get_or, flat_map, refl, sym, ◌∙◌, ap, arith, append_assoc}
+use Rattle.std.proofs.Common.{◌≡◌, ℕ, zero, suc, add-zero, add-one, zero-add, String, string_bytes, ◌+◌, ◌<◌, List, [], ◌∷◌, ◌++◌, length, take, map, get_or, flat_map, refl, ◌∙◌, ap, arith, append_assoc}
 use Rattle.std.specs.List.{range_with_len}
 use Rattle.std.specs.declared.alloc.Global.{Global}
 use Rattle.std.proofs.lemmas.Grind.{common_steps, flat_map-append}
-use Rattle.std.proofs.lemmas.List.{append-nil, take_more}
+use Rattle.std.proofs.lemmas.List.{take_more}
 use Rattle.std.proofs.lemmas.List.FromFn.{map-range_with_len_more}
 use Rattle.npp_reader.specs.Names.{texts}
 use Rattle.npp_cli.specs.Generated.{first_numbers}

@@ -1,5 +1,5 @@
 -- From what a job says of an instance to the answer.
-use Rattle.std.proofs.Common.{◌≡◌, ◌≢◌, ℕ, List, [], ◌∷◌, All, Bool, true, false, if◌then◌else◌, sym, ◌∙◌, arith}
+use Rattle.std.proofs.Common.{ℕ, List, [], ◌∷◌, inr}
 use Rattle.std.proofs.lemmas.List.Elements.{All-cons, All-nil}
 use Rattle.npp_net.specs.declared.types.NetArc.{NetArc}
 use Rattle.npp_net.specs.declared.types.Commodity.{Commodity}
@@ -18,20 +18,10 @@ all_have_free_paths arcs (k ∷ ks) (s ∷ ss) are =
     All-cons (λ k. HasNoFreePath arcs k → ⊥) k ks (λ none. none are.0.free_least.attained.0 are.0.free_least.attained.1)
     (all_have_free_paths arcs ks ss are.1)
 
-not_ten : (optimal : Bool) (status : ℕ) → status ≡ (if optimal then 0 else 1) → status ≡ 10 → ⊥
-not_ten true status e ten = omega (arith, e, ten)
-not_ten false status e ten = omega (arith, e, ten)
-
 pub solved_answers : (net : Network) (ss : List Span) (status : ℕ) (text : List ℕ)
     → AreSpans net.arcs net.commodities ss → IsSolved net status text → AnswersInstance Solve net status text
-solved_answers net ss status text are solved = record {
-  refused = λ ten. absurd (not_ten solved.report.optimal status solved.is_status ten);
-  done = λ _. (all_have_free_paths net.arcs net.commodities ss are, solved);
-}
+solved_answers net ss status text are solved = inr (all_have_free_paths net.arcs net.commodities ss are, solved)
 
 pub bounded_answers : (net : Network) (ss : List Span) (status : ℕ) (text : List ℕ)
     → AreSpans net.arcs net.commodities ss → IsBounded net status text → AnswersInstance Bounds net status text
-bounded_answers net ss status text are bounded = record {
-  refused = λ ten. absurd (let e = bounded.is_status in omega (arith, e, ten));
-  done = λ _. (all_have_free_paths net.arcs net.commodities ss are, bounded);
-}
+bounded_answers net ss status text are bounded = inr (all_have_free_paths net.arcs net.commodities ss are, bounded)

@@ -1,7 +1,7 @@
 -- The lines of a list, with one element more.
-use Rattle.std.proofs.Common.{◌≡◌, ℕ, ◌+◌, ◌<◌, List, [], ◌∷◌, ◌++◌, length, take, map, get_or, refl, sym, ◌∙◌, ap, arith, append_assoc, add_assoc, length-append}
+use Rattle.std.proofs.Common.{◌≡◌, ℕ, ◌+◌, ◌<◌, List, [], ◌∷◌, ◌++◌, length, take, map, get_or, arith}
 use Rattle.std.proofs.lemmas.Grind.{common_steps}
-use Rattle.std.proofs.lemmas.List.{append-nil, map_more, take_more, length-take, length-map}
+use Rattle.std.proofs.lemmas.List.{map_more, take_more}
 use Rattle.npp_cli.specs.Printed.{numbered_lines}
 
 pub numbered_lines-snoc : {X : Type 0} (line_of : ℕ → X → List ℕ) (n : ℕ) (xs : List X) (x : X)

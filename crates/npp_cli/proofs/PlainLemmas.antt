@@ -1,5 +1,5 @@
 -- The report of zero tolls with walks of the least cost.
-use Rattle.std.proofs.Common.{◌≡◌, ℕ, ◌+◌, ◌*◌, ◌≤◌, ◌==◌, ◌↔◌, true, pos, List, [], ◌∷◌, All, IsTrue, map, replicate, length, refl, sym, ap, subst, arith, rules}
+use Rattle.std.proofs.Common.{◌≡◌, ℕ, ◌==◌, pos, List, [], ◌∷◌, All, map, replicate, refl, sym, ap, subst, arith, rules}
 use Rattle.std.specs.List.{zip}
 use Rattle.std.proofs.lemmas.List.Elements.{All-cons, All-nil}
 use Rattle.npp_net.specs.declared.types.ArcId.{ArcId}
@@ -8,13 +8,13 @@ use Rattle.npp_net.specs.declared.types.Commodity.{Commodity}
 use Rattle.npp_net.specs.declared.types.Span.{Span}
 use Rattle.npp_net.specs.declared.types.Walk.{Walk}
 use Rattle.npp_net.specs.Network.{Network, toll_count}
-use Rattle.npp_net.specs.Outcome.{IsUpperBound, IsEarned, revenue}
+use Rattle.npp_net.specs.Outcome.{IsUpperBound, revenue}
 use Rattle.npp_bounds.specs.declared.least.LeastCosts.{LeastCosts}
 use Rattle.npp_bounds.specs.LeastWalks.{AreLeastWalks, arc_lists}
 use Rattle.npp_bounds.specs.ZeroTolls.{zero_tolls}
 use Rattle.npp_bounds.proofs.ZeroCheapest.{pays_nothing}
-use Rattle.npp_cli.specs.Printed.{PrintedPath, PrintedReport}
-use Rattle.npp_cli.specs.Headline.{IsPriced, IsReportOf, walks_of}
+use Rattle.npp_cli.specs.Printed.{PrintedPath}
+use Rattle.npp_cli.specs.Headline.{IsPriced, IsReportOf}
 use Rattle.npp_cli.specs.Report.{printed_path}
 use Rattle.npp_cli.specs.Plain.{AreLeast, plain_path}
 

@@ -1,6 +1,6 @@
 -- Which statuses an answer may have.
-use Rattle.std.proofs.Common.{◌≡◌, ◌≢◌, ℕ, List, Bool, true, false, if◌then◌else◌, Option, None, Some, Result, Ok, Err, MatchResult, sym, ◌∙◌, arith}
-use Rattle.npp_outside.specs.Shelf.{Files}
+use Rattle.std.proofs.Common.{◌≡◌, ◌≢◌, ℕ, List, Bool, true, false, if◌then◌else◌, Option, None, Some, Result, Ok, Err, MatchResult, MatchBool, inl, inr, nat_lt, length, sym, ◌∙◌, arith}
+use Rattle.npp_outside.specs.Shelf.{Files, file_at}
 use Rattle.npp_net.specs.Network.{Network}
 use Rattle.npp_reader.specs.declared.document.Document.{Document}
 use Rattle.npp_reader.specs.declared.refusal.ReadRefusal.{ReadRefusal}
@@ -8,8 +8,8 @@ use Rattle.npp_reader.specs.declared.refusal.ReadRefusal.TheVariants.{Line, Memo
 use Rattle.npp_reader.specs.Reading.{reading_of}
 use Rattle.npp_cli.specs.declared.words.FileJob.{FileJob}
 use Rattle.npp_cli.specs.declared.words.FileJob.TheVariants.{Solve, Bounds}
-use Rattle.npp_cli.specs.Words.{Job, on_file, generate, job_of}
-use Rattle.npp_cli.specs.Answers.{IsDone, AnswersInstance, AnswersFault, AnswersBytes, AnswersFile, AnswersJob, Answers}
+use Rattle.npp_cli.specs.Texts.{too_long_text}
+use Rattle.npp_cli.specs.Answers.{IsDone, AnswersInstance, AnswersFault, AnswersBytes, AnswersContent, AnswersFile, instance_limit}
 
 -- none of the statuses of an answer about the bytes of a file
 pub record IsOther (n : ℕ) : Type 0 where
@@ -26,24 +26,18 @@ done_status : (n status : ℕ) → IsOther n → status ≡ n → (job : FileJob
 done_status n status other is Solve net text done = optimal_status n status other is done.report.optimal done.is_status
 done_status n status other is Bounds net text done = other.not_0 (sym is ∙ done.is_status)
 
+instance_status : (n status : ℕ) → IsOther n → status ≡ n → (job : FileJob) (net : Network) (text : List ℕ) → AnswersInstance job net status text → ⊥
+instance_status n status other is job net text (inl refused) = other.not_10 (sym is ∙ refused.2)
+instance_status n status other is job net text (inr done) = done_status n status other is job net text done.1
+
 read_status : (n status : ℕ) → IsOther n → status ≡ n → (job : FileJob) (text : List ℕ) (r : Result Document ReadRefusal)
-    → MatchResult r (λ document. (status ≢ 3) × AnswersInstance job document.instance status text) (λ fault. AnswersFault fault status text) → ⊥
-read_status n status other is job text (Ok document) answers =
-    done_status n status other is job document.instance text (answers.1.done (λ ten. other.not_10 (sym is ∙ ten))).1
+    → MatchResult r (λ document. AnswersInstance job document.instance status text) (λ fault. AnswersFault fault status text) → ⊥
+read_status n status other is job text (Ok document) answers = instance_status n status other is job document.instance text answers
 read_status n status other is job text (Err (Line number kind)) answers = other.not_3 (sym is ∙ answers.0)
 read_status n status other is job text (Err Memory) answers = absurd answers
 
 pub bytes_status : (n status : ℕ) → IsOther n → status ≡ n → (job : FileJob) (bytes text : List ℕ) → AnswersBytes job bytes status text → ⊥
 bytes_status n status other is job bytes text answers = read_status n status other is job text (reading_of bytes) answers
-
-pub other_2 : IsOther 2
-other_2 = record { not_0 = λ e. omega (arith, e); not_1 = λ e. omega (arith, e); not_3 = λ e. omega (arith, e); not_10 = λ e. omega (arith, e) }
-
-pub other_4 : IsOther 4
-other_4 = record { not_0 = λ e. omega (arith, e); not_1 = λ e. omega (arith, e); not_3 = λ e. omega (arith, e); not_10 = λ e. omega (arith, e) }
-
-pub other_5 : IsOther 5
-other_5 = record { not_0 = λ e. omega (arith, e); not_1 = λ e. omega (arith, e); not_3 = λ e. omega (arith, e); not_10 = λ e. omega (arith, e) }
 
 pub other_6 : IsOther 6
 other_6 = record { not_0 = λ e. omega (arith, e); not_1 = λ e. omega (arith, e); not_3 = λ e. omega (arith, e); not_10 = λ e. omega (arith, e) }
@@ -51,17 +45,25 @@ other_6 = record { not_0 = λ e. omega (arith, e); not_1 = λ e. omega (arith, e
 pub other_7 : IsOther 7
 other_7 = record { not_0 = λ e. omega (arith, e); not_1 = λ e. omega (arith, e); not_3 = λ e. omega (arith, e); not_10 = λ e. omega (arith, e) }
 
-pub other_12 : IsOther 12
-other_12 = record { not_0 = λ e. omega (arith, e); not_1 = λ e. omega (arith, e); not_3 = λ e. omega (arith, e); not_10 = λ e. omega (arith, e) }
-
 -- none of the statuses of the shelf
 pub record IsNoShelfStatus (n : ℕ) : Type 0 where
   pub not_4 : n ≢ 4
   pub not_5 : n ≢ 5
   pub not_12 : n ≢ 12
 
+content_status : (n status : ℕ) → IsOther n → IsNoShelfStatus n → status ≡ n
+    → (job : FileJob) (name text : List ℕ) (file : Option (List ℕ)) → AnswersContent job name file status text → ⊥
+content_status n status other none is job name text None answers = none.not_4 (sym is ∙ answers.0)
+content_status n status other none is job name text (Some bytes) answers =
+    by_length (nat_lt instance_limit (length bytes)) answers
+  where
+    by_length : (long : Bool) → MatchBool long ((status ≡ 12) × (text ≡ too_long_text name)) (AnswersBytes job bytes status text) → ⊥
+    by_length true answers = none.not_12 (sym is ∙ answers.0)
+    by_length false answers = bytes_status n status other is job bytes text answers
+
 pub file_status : (n status : ℕ) → IsOther n → IsNoShelfStatus n → status ≡ n
     → (job : FileJob) (held : Option Files) (name text : List ℕ) → AnswersFile job held name status text → ⊥
-file_status n status other none is job held name text answers =
-    let taken = answers.taken (λ e. none.not_4 (sym is ∙ e)) (λ e. none.not_5 (sym is ∙ e)) (λ e. none.not_12 (sym is ∙ e)) in
-    bytes_status n status other is job taken.0 text taken.3
+file_status n status other none is job None name text (inl failed) = none.not_5 (sym is ∙ failed.0)
+file_status n status other none is job None name text (inr (file, answers)) = content_status n status other none is job name text file answers
+file_status n status other none is job (Some files) name text (inl failed) = none.not_5 (sym is ∙ failed.0)
+file_status n status other none is job (Some files) name text (inr answers) = content_status n status other none is job name text (file_at files name) answers

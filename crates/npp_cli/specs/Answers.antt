@@ -1,5 +1,5 @@
 -- Which status and which text answer the words, given what the shelf holds.
-use Rattle.std.specs.Prelude.{◌≡◌, ◌≢◌, ⊤, ℕ, ◌<◌, ◌≤◌, List, length, Option, None, Some, MatchOption, MatchResult, if◌then◌else◌}
+use Rattle.std.specs.Prelude.{◌≡◌, ◌⊎◌, ℕ, nat_lt, List, length, Option, None, Some, MatchBool, MatchResult, if◌then◌else◌}
 use Rattle.npp_outside.specs.Shelf.{Files, file_at}
 use Rattle.npp_net.specs.declared.types.Span.{Span}
 use Rattle.npp_net.specs.Network.{Network}
@@ -41,9 +41,10 @@ IsDone Solve net status text = IsSolved net status text
 IsDone Bounds net status text = IsBounded net status text
 
 -- the first commodity that has no toll-free walk is named with status 10; where each has one, the job is done
-pub record AnswersInstance (job : FileJob) (net : Network) (status : ℕ) (text : List ℕ) : Type 0 where
-  pub refused : status ≡ 10 → (k : ℕ) × IsBoundsRefusal net.arcs net.commodities (NoFreePath k) × (text ≡ no_free_path_text k)
-  pub done : status ≢ 10 → AllHaveFreePaths net.arcs net.commodities × IsDone job net status text
+abbrev pub AnswersInstance : FileJob → Network → ℕ → List ℕ → Type 0
+AnswersInstance job net status text =
+    ((k : ℕ) × IsBoundsRefusal net.arcs net.commodities (NoFreePath k) × (status ≡ 10) × (text ≡ no_free_path_text k))
+    ⊎ (AllHaveFreePaths net.arcs net.commodities × IsDone job net status text)
 
 -- the first faulty line is named with status 3
 abbrev pub AnswersFault : ReadRefusal → ℕ → List ℕ → Type 0
@@ -54,38 +55,34 @@ AnswersFault Memory status text = ⊥
 abbrev pub AnswersBytes : FileJob → List ℕ → ℕ → List ℕ → Type 0
 AnswersBytes job bytes status text =
     MatchResult (reading_of bytes)
-        (λ document. (status ≢ 3) × AnswersInstance job document.instance status text)
-        (λ fault. AnswersFault fault status text)
+    (λ document. AnswersInstance job document.instance status text)
+    (λ fault. AnswersFault fault status text)
 
--- a file of this name is held nowhere, where the shelf tells what it holds
-abbrev pub IsNotHeld : Option Files → List ℕ → Type 0
-IsNotHeld None name = ⊤
-IsNotHeld (Some files) name = file_at files name ≡ None
+-- the answer about a file that is missing, with status 4, or has these bytes; with too many of them the status is 12
+abbrev pub AnswersContent : FileJob → List ℕ → Option (List ℕ) → ℕ → List ℕ → Type 0
+AnswersContent job name None status text = (status ≡ 4) × (text ≡ missing_text name)
+AnswersContent job name (Some bytes) status text =
+    MatchBool (nat_lt instance_limit (length bytes))
+    ((status ≡ 12) × (text ≡ too_long_text name))
+    (AnswersBytes job bytes status text)
 
--- the file of this name has these bytes, where the shelf tells what it holds
-abbrev pub IsHeld : Option Files → List ℕ → List ℕ → Type 0
-IsHeld None name bytes = ⊤
-IsHeld (Some files) name bytes = file_at files name ≡ Some bytes
+-- where the shelf failed the status is 5; else the answer is about the file that the shelf holds under the name,
+-- and about any file or none where the shelf does not tell
+abbrev pub AnswersFile : FileJob → Option Files → List ℕ → ℕ → List ℕ → Type 0
+AnswersFile job (Some files) name status text =
+    ((status ≡ 5) × (text ≡ shelf_fault_text name)) ⊎ AnswersContent job name (file_at files name) status text
+AnswersFile job None name status text =
+    ((status ≡ 5) × (text ≡ shelf_fault_text name)) ⊎ ((file : Option (List ℕ)) × AnswersContent job name file status text)
 
--- the file of this name has more bytes than the limit, where the shelf tells what it holds
-abbrev pub IsHeldTooLong : Option Files → List ℕ → Type 0
-IsHeldTooLong None name = ⊤
-IsHeldTooLong (Some files) name = MatchOption (file_at files name) ⊥ (λ bytes. instance_limit < length bytes)
-
--- the answer to a job for a file: 4 where it is missing, 5 where the shelf failed, 12 where it is too long,
--- and else that about its bytes
-pub record AnswersFile (job : FileJob) (held : Option Files) (name : List ℕ) (status : ℕ) (text : List ℕ) : Type 0 where
-  pub missing : status ≡ 4 → IsNotHeld held name × (text ≡ missing_text name)
-  pub failed : status ≡ 5 → text ≡ shelf_fault_text name
-  pub too_long : status ≡ 12 → IsHeldTooLong held name × (text ≡ too_long_text name)
-  pub taken : status ≢ 4 → status ≢ 5 → status ≢ 12
-      → (bytes : List ℕ) × IsHeld held name bytes × (length bytes ≤ instance_limit) × AnswersBytes job bytes status text
+-- a generated instance is printed with status 0
+abbrev pub AnswersNumber : ℕ → ℕ → List ℕ → Type 0
+AnswersNumber number status text = status ≡ 0
 
 -- words that ask for no job are answered by the usage text, with status 2
 abbrev pub AnswersJob : Option Job → Option Files → ℕ → List ℕ → Type 0
 AnswersJob None held status text = (status ≡ 2) × (text ≡ usage_text)
-AnswersJob (Some (on_file job name)) held status text = (status ≢ 2) × AnswersFile job held name status text
-AnswersJob (Some (generate number)) held status text = ⊥
+AnswersJob (Some (on_file job name)) held status text = AnswersFile job held name status text
+AnswersJob (Some (generate number)) held status text = AnswersNumber number status text
 
 -- the answer to the words
 abbrev pub Answers : List (List ℕ) → Option Files → ℕ → List ℕ → Type 0

@@ -53,4 +53,3 @@ report_text r =
     ++ line (codes "opened 0")
     ++ numbered_lines toll_line 0 r.tolls
     ++ numbered_lines path_line 0 r.paths
-

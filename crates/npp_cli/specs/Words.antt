@@ -1,5 +1,5 @@
 -- Which job the words of the command line ask for.
-use Rattle.std.specs.Prelude.{◌≡◌, ℕ, ◌+◌, ◌-◌, ◌*◌, ◌&&◌, ◌||◌, ◌==◌, Bool, List, [], ◌∷◌, length, map, fold, nat_eq, nat_lt, nat_le, Option, Some, None, if◌then◌else◌, string_bytes, String, codes}
+use Rattle.std.specs.Prelude.{◌≤◌, ⊤, ℕ, ◌+◌, ◌-◌, ◌*◌, ◌&&◌, Bool, List, [], ◌∷◌, length, map, fold, nat_eq, nat_le, Option, Some, None, if◌then◌else◌, string_bytes, String, codes}
 use Rattle.std.specs.List.{list_all, starts_with}
 use Rattle.std.specs.Option.{option_map}
 use Rattle.std.specs.Cmp.Lexicographic.{pointwise}
@@ -18,6 +18,11 @@ pub data Job : Type 0 where
 abbrev pub job_meant : Command → Job
 job_meant (OnFile job file) = on_file job file.now
 job_meant (Generate number) = generate number
+
+-- the number of a generated instance has at most six digits
+abbrev pub IsWithinDigits : Command → Type 0
+IsWithinDigits (OnFile job file) = ⊤
+IsWithinDigits (Generate number) = number ≤ 999999
 
 -- the bytes of each word
 abbrev pub texts : List (String Global) → List (List ℕ)

@@ -1,11 +1,13 @@
 //! Generated instances: a main road of toll arcs beside a toll-free side road that is dearer, with ramps between them.
-ghost use Rattle.std.specs.Prelude.{◌≡◌, ◌+◌, ◌<◌, ◌≤◌, ◌++◌, ◌∷◌, [], ℕ, IfOk, OnOk, codes, flat_map, map};
+ghost use Rattle.std.specs.Prelude.{◌≡◌, ◌+◌, ◌<◌, ◌≤◌, ◌++◌, ◌∷◌, [], ℕ, IfOk, OnOk, flat_map, map, string_bytes};
 ghost use Rattle.std.specs.Fmt.{decimal};
 ghost use Rattle.npp_reader.specs.Names.{texts};
+ghost use Rattle.npp_cli.specs.Answers.{AnswersNumber};
 ghost use Rattle.npp_cli.specs.Generated.{spread, first_numbers, generated, generated_names, generated_arcs, generated_pairs, main_node, side_node, main_arc, side_arcs, ramp_arcs, side_pair, both_ways};
 
+use crate::answers::Answer;
 use npp_net::{Commodity, Instance, Memory, NetArc, NodeId};
-use npp_reader::{Document, Names};
+use npp_reader::{Document, Names, print};
 use std::alloc::Global;
 
 /// How many nodes each of the two roads has.
@@ -26,6 +28,16 @@ pub fn generate(alloc: Global, number: u32) -> Result<Document, Memory>
         Ok(instance) => Ok(Document { names, instance }),
         Err(_) => Err(Memory),
     }
+}
+
+/// The job `gen`: the canonical text of the instance of a number.
+pub fn answer_on_number(alloc: Global, number: u32) -> Result<Answer, Memory>
+    requires { number ≤ 999999 }
+    ensures { IfOk result (λ answer. AnswersNumber number answer.status (string_bytes answer.text)) }
+{
+    let document = generate(alloc, number)?;
+    let text = print(alloc, &document)?;
+    Ok(Answer { status: 0, text })
 }
 
 // A number below `most`, which the instance's number and the place decide.

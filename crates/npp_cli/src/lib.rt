@@ -12,3 +12,6 @@ mod words;
 
 pub use generator::generate;
 pub use program::run;
+
+#[cfg(test)]
+mod tests;

@@ -6,6 +6,7 @@ ghost use Rattle.npp_cli.specs.Answers.{Answers, AnswersFile, AnswersBytes, inst
 ghost use Rattle.npp_cli.specs.Runs.{Runs, HasAnswerCause};
 
 use crate::answers::{Answer, faulty_line, missing, shelf_fault, too_long, usage};
+use crate::generator::answer_on_number;
 use crate::solve::solve;
 use crate::spans::bounds;
 use crate::take::{TakeRefusal, take_file};
@@ -48,12 +49,17 @@ fn answer_to<S: Shelf>(alloc: Global, words: &[String], shelf: &mut S) -> Result
     match command_of(words) {
         None => usage(alloc),
         Some(Command::OnFile(job, file)) => answer_on_file(alloc, job, file, shelf),
-        Some(Command::Generate(_)) => Err(Memory),
+        Some(Command::Generate(number)) => answer_on_number(alloc, number),
     }
 }
 
 // The answer to a job for a file.
-fn answer_on_file<S: Shelf>(alloc: Global, job: FileJob, file: &str, shelf: &mut S) -> Result<Answer, Memory>
+fn answer_on_file<S: Shelf>(
+    alloc: Global,
+    job: FileJob,
+    file: &str,
+    shelf: &mut S,
+) -> Result<Answer, Memory>
     ensures held { S.held shelf.new ≡ S.held shelf.old }
     ensures answer { IfOk result (λ answer. AnswersFile job (S.held shelf.old) file.now answer.status (string_bytes answer.text)) }
     ensures cause { IfOk result (λ answer. HasAnswerCause (S.faults shelf.old) (S.faults shelf.new) (S.misses shelf.old) (S.misses shelf.new) answer.status) }

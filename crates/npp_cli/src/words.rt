@@ -1,6 +1,6 @@
 //! The words of the command line, and the job that they ask for.
-ghost use Rattle.std.specs.Prelude.{◌≡◌, ℕ, MatchOption, None, Some, map, string_bytes};
-ghost use Rattle.npp_cli.specs.Words.{job_of, job_meant, number_of, texts};
+ghost use Rattle.std.specs.Prelude.{◌≡◌, ◌≤◌, ℕ, MatchOption, IfSome, None, Some};
+ghost use Rattle.npp_cli.specs.Words.{job_of, job_meant, number_of, texts, IsWithinDigits};
 
 /// What is asked of the instance in a file.
 #[derive(Clone, Copy, Debug, PartialEq, Eq)]
@@ -22,12 +22,11 @@ pub enum Command<'w> {
 
 /// The job that the words ask for, the program's own name being the first of them. None where they ask for none.
 pub fn command_of(words: &[String]) -> Option<Command<'_>>
-    ensures {
-        MatchOption
-            result
-            (job_of (texts words.now) ≡ None)
-            (λ command. job_of (texts words.now) ≡ Some (job_meant command))
-    }
+    ensures job { MatchOption
+        result
+        (job_of (texts words.now) ≡ None)
+        (λ command. job_of (texts words.now) ≡ Some (job_meant command)) }
+    ensures within { IfSome result IsWithinDigits }
 {
     if words.len() != 3 {
         return None;
@@ -54,7 +53,8 @@ pub fn command_of(words: &[String]) -> Option<Command<'_>>
 
 // The number of one to six decimal digits.
 fn number_of(text: &str) -> Option<u32>
-    ensures { result ≡ number_of text.now }
+    ensures value { result ≡ number_of text.now }
+    ensures within { IfSome result (λ number. number ≤ 999999) }
 {
     let digits = text.as_bytes();
     if digits.is_empty() || digits.len() > 6 {

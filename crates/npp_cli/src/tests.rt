@@ -1,0 +1,173 @@
+//! Whole runs, over files in memory and over a shelf and a sink of the tests' own.
+ghost use Rattle.std.specs.Prelude.{None};
+
+use crate::run;
+use npp_outside::{Shelf, ShelfAnswer, Sink, SinkAnswer, SureShelf, SureSink};
+use std::alloc::Global;
+use std::process::Abort;
+use std::test::Fail;
+
+const TWO_ROADS: &str = "npp 1\nnode a\nnode b\nfree a b 10\ntoll a b 2\npair a b 5\n";
+
+// Gives one byte a call of its only file, which every name finds, and fails from the call after `most` bytes on.
+#[derive(Drop)]
+struct Slow {
+    text: &'static str,
+    most: u64,
+    faults: u64,
+}
+
+impl Shelf for Slow {
+    ghost held = { λ _. None };
+
+    ghost faults = { λ shelf. shelf.faults };
+
+    ghost misses = { λ _. 0 };
+
+    fn piece(&mut self, _name: &str, at: u64, into: &mut [u8]) -> Result<usize, ShelfAnswer> {
+        if at >= self.most {
+            self.faults = self.faults.saturating_add(1);
+            return Err(ShelfAnswer::Failed);
+        }
+        let bytes = self.text.as_bytes();
+        if at >= bytes.len() as u64 || into.is_empty() {
+            return Ok(0);
+        }
+        into[0] = bytes[at as usize];
+        Ok(1)
+    }
+}
+
+// Fails at its first call.
+#[derive(Drop)]
+struct Broken {
+    faults: u64,
+}
+
+impl Sink for Broken {
+    ghost written = { λ _. None };
+
+    ghost faults = { λ sink. sink.faults };
+
+    fn write(&mut self, _bytes: &[u8]) -> Result<usize, SinkAnswer> {
+        self.faults = self.faults.saturating_add(1);
+        Err(SinkAnswer::Failed)
+    }
+}
+
+fn words(alloc: Global, job: &str, first: &str) -> Result<Vec<String>, Fail> {
+    let mut words = Vec::new(alloc);
+    words.push(String::from_str(alloc, "npp")?)?;
+    words.push(String::from_str(alloc, job)?)?;
+    words.push(String::from_str(alloc, first)?)?;
+    Ok(words)
+}
+
+// A run over one file of this text: its status and what is written are these.
+fn expect(
+    rt: &impl Abort,
+    alloc: Global,
+    job: &str,
+    first: &str,
+    text: &[u8],
+    status: u8,
+    written: &str,
+) -> Result<(), Fail> {
+    let name = String::from_str(alloc, "file")?;
+    let bytes = Vec::from_slice(alloc, text)?;
+    let mut shelf = SureShelf::new(Vec::from_array(alloc, [(name, bytes)])?);
+    let mut out = SureSink::new(alloc);
+    let words = words(alloc, job, first)?;
+    assert_eq!(rt; run(alloc, &words, &mut shelf, &mut out), status);
+    assert_eq!(rt; out.written(), written.as_bytes());
+    Ok(())
+}
+
+#[test]
+fn reports(rt: HostRuntime) -> Result<(), Fail> {
+    let alloc = rt.alloc();
+    let report =
+        "npp-certificate 1\nstatus budget\nwidth 64\nlower 0\nupper 40\nopened 0\ntoll 0 0\npath 0 2 0 1\n";
+    expect(&rt, alloc, "solve", "file", TWO_ROADS.as_bytes(), 1, report)?;
+    let free = b"npp 1\nnode a\nnode b\nfree a b 4\npair a b 1\n";
+    let report =
+        "npp-certificate 1\nstatus optimal\nwidth 64\nlower 0\nupper 0\nopened 0\npath 0 4 0 0\n";
+    expect(&rt, alloc, "solve", "file", free, 0, report)?;
+    expect(
+        &rt,
+        alloc,
+        "bounds",
+        "file",
+        TWO_ROADS.as_bytes(),
+        0,
+        "span 0 10 2\nbasic 40\n",
+    )
+}
+
+#[test]
+fn refusals(rt: HostRuntime) -> Result<(), Fail> {
+    let alloc = rt.alloc();
+    let tolls_only = b"npp 1\nnode a\nnode b\ntoll a b 1\npair a b 1\n";
+    expect(
+        &rt,
+        alloc,
+        "solve",
+        "file",
+        tolls_only,
+        10,
+        "refused no-free-path 0\n",
+    )?;
+    expect(
+        &rt,
+        alloc,
+        "solve",
+        "file",
+        b"npp 1\nnode a\nnode a\n",
+        3,
+        "refused instance line 3 RepeatedNode\n",
+    )?;
+    expect(&rt, alloc, "solve", "none", b"", 4, "missing none\n")?;
+    let usage =
+        "usage: npp solve FILE [--budget N] [--cuts N] [--numbers W] [--brief]\n       npp check FILE CERTIFICATE\n       npp bounds FILE\n       npp paths FILE\n       npp eval FILE TOLLS\n       npp gen NUMBER\n       npp demo NUMBER [--budget N] [--cuts N] [--numbers W]\n";
+    expect(&rt, alloc, "gen", "1000000", b"", 2, usage)?;
+    let long = vec![in alloc; b'#'; 4_194_305]?;
+    expect(
+        &rt,
+        alloc,
+        "solve",
+        "file",
+        &long,
+        12,
+        "refused too-long file\n",
+    )
+}
+
+#[test]
+fn slow_and_failing(rt: HostRuntime) -> Result<(), Fail> {
+    let alloc = rt.alloc();
+    let words = words(alloc, "bounds", "file")?;
+    let mut out = SureSink::new(alloc);
+    let mut slow = Slow {
+        text: TWO_ROADS,
+        most: 1000,
+        faults: 0,
+    };
+    assert_eq!(rt; run(alloc, &words, &mut slow, &mut out), 0);
+    assert_eq!(rt; out.written(), b"span 0 10 2\nbasic 40\n".as_slice());
+    let mut out = SureSink::new(alloc);
+    let mut failing = Slow {
+        text: TWO_ROADS,
+        most: 0,
+        faults: 0,
+    };
+    assert_eq!(rt; run(alloc, &words, &mut failing, &mut out), 5);
+    assert_eq!(rt; out.written(), b"shelf fault file\n".as_slice());
+    let mut slow = Slow {
+        text: TWO_ROADS,
+        most: 1000,
+        faults: 0,
+    };
+    let mut broken = Broken { faults: 0 };
+    assert_eq!(rt; run(alloc, &words, &mut slow, &mut broken), 6);
+    Ok(())
+}
