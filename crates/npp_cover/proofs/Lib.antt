@@ -1,0 +1,13 @@
+pub mod TestLemmas
+pub mod FreeLemmas
+pub mod SetLemmas
+pub mod IndexLemmas
+pub mod StepLemmas
+pub mod ClosureLemmas
+pub mod PathLemmas
+pub mod RankLemmas
+pub mod SumLemmas
+pub mod TreeLemmas
+pub mod ReplaceLemmas
+pub mod CoverLemmas
+pub mod FaultLemmas

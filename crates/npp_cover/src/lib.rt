@@ -1,0 +1,25 @@
+//! Covers: finite lists of labels and paths that stand for all walks of a commodity. A closed cover has, for each walk
+//! that is cheapest under some tolls, a path that is cheapest too and pays the same.
+#![tactic(auto)]
+
+mod check;
+mod closed;
+mod commodity;
+mod cover;
+mod extend;
+mod fault;
+mod free;
+mod index;
+mod label;
+mod path;
+mod paths;
+mod rank;
+mod steps;
+#[cfg(test)]
+mod tests;
+
+pub use check::check_cover;
+pub use cover::Cover;
+pub use fault::CoverFault;
+pub use label::{CoverDraft, Label, StepDraft};
+pub use path::UsefulPath;
