@@ -36,7 +36,7 @@ neither None b e = (refl, e)
 neither (Some f) b e = cc
 
 -- the least cost onward is that of some walk
-wins_by : (arcs : List NetArc) (k : Commodity) (free v cost : ℕ) (o : Option ℕ) → IsDistance arcs true v k.destination.0 o → is_below free cost o ≡ true
+pub wins_by : (arcs : List NetArc) (k : Commodity) (free v cost : ℕ) (o : Option ℕ) → IsDistance arcs true v k.destination.0 o → is_below free cost o ≡ true
     → CanWin arcs k free v cost
 wins_by arcs k free v cost None distance e = cc
 wins_by arcs k free v cost (Some more) distance e =
@@ -44,7 +44,7 @@ wins_by arcs k free v cost (Some more) distance e =
     (distance.attained.0, distance.attained.1.path, omega (arith, distance.attained.2))
 
 -- and no walk onward costs less
-below_by : (arcs : List NetArc) (k : Commodity) (free v cost : ℕ) (o : Option ℕ) → IsDistance arcs true v k.destination.0 o → CanWin arcs k free v cost
+pub below_by : (arcs : List NetArc) (k : Commodity) (free v cost : ℕ) (o : Option ℕ) → IsDistance arcs true v k.destination.0 o → CanWin arcs k free v cost
     → is_below free cost o ≡ true
 below_by arcs k free v cost None distance wins = absurd (distance wins.0 (record { path = wins.1; usable = all_usable arcs wins.0 }))
 below_by arcs k free v cost (Some more) distance wins =
@@ -58,19 +58,19 @@ pub record AreFaultless (net : Network) (k : Commodity) (free : ℕ) (labels : L
   pub wins : (i : ℕ) → i < length labels → CanWin net.arcs k free (label_at labels i).node.0 (label_at labels i).cost
   pub nodes : (i : ℕ) → i < length labels → (label_at labels i).node.0 < net.nodes
 
-parent_by : (arcs : List NetArc) (origin : NodeId) (i n : ℕ) (l from : Label) (o : Option ArcId) → MatchOption o (l ≡ start_label origin) (GoesBy arcs i l from)
+pub parent_by : (arcs : List NetArc) (origin : NodeId) (i n : ℕ) (l from : Label) (o : Option ArcId) → MatchOption o (l ≡ start_label origin) (GoesBy arcs i l from)
     → i < n → l.parent < n
 parent_by arcs origin i n l from None start lt = omega (arith, ap (λ (x : Label). x.parent) start)
 parent_by arcs origin i n l from (Some a) goes lt = omega (arith, goes.lower)
 
 module _ (labels : List Label) (l : Label) where
-  before : (i : ℕ) → i < length labels → label_at (labels ++ l ∷ []) i ≡ label_at labels i
+  pub before : (i : ℕ) → i < length labels → label_at (labels ++ l ∷ []) i ≡ label_at labels i
   before i lt = get_or-append labels (l ∷ []) no_label i lt
 
-  at_end : label_at (labels ++ l ∷ []) (length labels) ≡ l
+  pub at_end : label_at (labels ++ l ∷ []) (length labels) ≡ l
   at_end = get_or-append_seam labels l [] no_label
 
-  by_place : (P : ℕ → Label → Type 0) → ((i : ℕ) → i < length labels → P i (label_at labels i)) → P (length labels) l
+  pub by_place : (P : ℕ → Label → Type 0) → ((i : ℕ) → i < length labels → P i (label_at labels i)) → P (length labels) l
       → (i : ℕ) → i < length (labels ++ l ∷ []) → P i (label_at (labels ++ l ∷ []) i)
   by_place P each last i lt = elim (cases_eq i (length labels)) [
     | inl e ↦ subst (λ (j : ℕ). P j (label_at (labels ++ l ∷ []) j)) (sym e) (subst (λ (x : Label). P (length labels) x) (sym at_end) last)
@@ -80,7 +80,7 @@ module _ (labels : List Label) (l : Label) where
   ]
 
 -- one more label without fault
-faultless_more : (net : Network) (k : Commodity) (free : ℕ) (labels : List Label) (l : Label) → AreFaultless net k free labels → l.parent < length labels
+pub faultless_more : (net : Network) (k : Commodity) (free : ℕ) (labels : List Label) (l : Label) → AreFaultless net k free labels → l.parent < length labels
     → IsStartOrGoes net.arcs k.origin (length labels) l (label_at labels l.parent) → CanWin net.arcs k free l.node.0 l.cost → l.node.0 < net.nodes
     → AreFaultless net k free (labels ++ l ∷ [])
 faultless_more net k free labels l good parent goes wins node =

@@ -24,8 +24,8 @@ fn is_no_worse(label: Label, tolls: TollSet, cost: u64) -> bool
     label.cost <= cost && label.tolls.is_within(tolls)
 }
 
-/// Whether one of the labels dominates this pair.
-fn is_dominated(labels: &[Label], tolls: TollSet, cost: u64) -> bool
+/// Whether one of the labels has no toll outside the set and a cost not above this one.
+pub fn is_dominated(labels: &[Label], tolls: TollSet, cost: u64) -> bool
     ensures { result ≡ list_any (λ l. is_no_worse l tolls cost) labels.now }
 {
     labels.iter().any(|l| is_no_worse(*l, tolls, cost))

@@ -10,8 +10,9 @@ use crate::label::{Label, StepDraft};
 use npp_net::{ArcId, Instance, NodeId, TollSet};
 use npp_short::Potentials;
 
-/// Whether a walk to the node of this cost can be continued to one that costs less than the toll-free walk.
-pub(crate) fn can_win(potentials: &Potentials, free: u64, node: NodeId, cost: u64) -> bool
+/// Whether a walk to the node of this cost can be continued to one that costs less than the toll-free walk, whose cost is
+/// `free`.
+pub fn can_win(potentials: &Potentials, free: u64, node: NodeId, cost: u64) -> bool
     requires { node.0 < length potentials.now }
     ensures { result ≡ can_win (cost_at potentials.now) free node.0 cost }
 {
@@ -45,9 +46,9 @@ pub(crate) fn has_arc(instance: &Instance, tolls: TollSet, arc: ArcId) -> bool
     }
 }
 
-/// The label that a step gives after its parent. A cost that does not fit becomes the greatest number: with it no walk
-/// can win.
-pub(crate) fn label_after(instance: &Instance, from: Label, step: StepDraft) -> Label
+/// The label that a step gives after the label of its parent. A cost that does not fit 64 bits becomes the greatest
+/// number: with it no walk can win.
+pub fn label_after(instance: &Instance, from: Label, step: StepDraft) -> Label
     requires { step.arc.0 < length instance.now.arcs }
     ensures { IsCapped (label_after instance.now.arcs from step) result }
 {

@@ -19,7 +19,9 @@ mod steps;
 mod tests;
 
 pub use check::check_cover;
+pub use closed::is_dominated;
 pub use cover::Cover;
+pub use extend::{can_win, label_after};
 pub use fault::CoverFault;
 pub use label::{CoverDraft, Label, StepDraft};
 pub use path::UsefulPath;

@@ -1,9 +1,9 @@
-use Rattle.std.proofs.Common.{◌≡◌, ℕ, List, ◌∙◌, ap, sym, subst, map, All}
+use Rattle.std.proofs.Common.{◌≡◌, List, ◌∙◌, ap, sym, subst, map, All}
 use Rattle.npp_net.specs.declared.types.Commodity.{Commodity}
 use Rattle.npp_cover.specs.declared.label.Label.{Label}
 use Rattle.npp_cover.specs.declared.rank.Rank.{Rank}
 use Rattle.npp_cover.specs.Useful.{commodity_at}
-use Rattle.npp_cover.specs.Paths.{AreInOrder, PathValue, path_of, IsRankOf}
+use Rattle.npp_cover.specs.Paths.{AreInOrder, path_of, IsRankOf}
 use Rattle.npp_cover.specs.PathValue.{path_value}
 use Rattle.npp_cover.proofs.CoverLemmas.{is_cover, ranks_of_labels, paths_made}
 use Rattle.npp_cover.proofs.cover.Cover.of_labels.Goals as goal
