@@ -2,34 +2,25 @@
 
 use npp_net::{ArcId, Memory};
 use std::alloc::{AllocError, AllocFailed};
-use thiserror::Error;
 
 /// Why a draft is no cover, in the order in which the rules are judged.
-#[derive(Debug, PartialEq, Eq, Drop, Error)]
+#[derive(Debug, PartialEq, Eq, Drop)]
 pub enum CoverFault {
     /// There are over 65,536 labels, the start included.
-    #[error("too many labels")]
     TooManyLabels,
     /// The label of this number continues no label of lower number by an arc from its node.
-    #[error("label {0} is no step")]
     NotAStep(u32),
     /// The label of this number uses a toll arc twice.
-    #[error("label {0} repeats a toll")]
     RepeatedToll(u32),
     /// No walk on from the label of this number costs less in all than the toll-free walk.
-    #[error("label {0} is useless")]
     Useless(u32),
     /// The free walk is no toll-free walk of least cost of the commodity.
-    #[error("the free walk is wrong")]
     BadFree,
     /// There is no start although some walk costs less than the toll-free walk where all tolls are zero.
-    #[error("the origin is missing")]
     MissingOrigin,
     /// The extension of this label by this arc may still win, and no label at the arc's head dominates it.
-    #[error("label {0} is not closed")]
     NotClosed(u32, ArcId),
     /// Memory was wanting.
-    #[error("no memory")]
     Memory,
 }
 
