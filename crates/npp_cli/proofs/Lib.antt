@@ -1,3 +1,4 @@
+pub mod ClaimLemmas
 pub mod FileLemmas
 pub mod GeneratedNames
 pub mod Growth

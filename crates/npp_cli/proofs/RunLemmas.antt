@@ -18,7 +18,7 @@ job_status : (n status : ℕ) → n ≢ 2 → IsOther n → IsNoShelfStatus n �
     → (job : Option Job) (held : Option Files) (text : List ℕ) → AnswersJob job held status text → ⊥
 job_status n status not_2 other none is None held text answers = not_2 (sym is ∙ answers.0)
 job_status n status not_2 other none is (Some (on_file job name)) held text answers = file_status n status other none is job held name text answers
-job_status n status not_2 other none is (Some (generate number)) held text answers = other.not_0 (sym is ∙ answers)
+job_status n status not_2 other none is (Some (generate number)) held text answers = other.not_0 (sym is ∙ answers.0)
 
 pub answers_6 : (words : List (List ℕ)) (held : Option Files) (status : ℕ) (text : List ℕ) → Answers words held status text → status ≡ 6 → ⊥
 answers_6 words held status text answers six = job_status 6 status (λ e. omega (arith, e)) other_6 no_shelf_6 six (job_of words) held text answers

@@ -7,11 +7,13 @@ use Rattle.npp_reader.specs.declared.refusal.ReadRefusal.{ReadRefusal}
 use Rattle.npp_reader.specs.declared.refusal.ReadRefusal.TheVariants.{Line, Memory}
 use Rattle.npp_reader.specs.Kind.{kind_word}
 use Rattle.npp_reader.specs.Reading.{reading_of}
+use Rattle.npp_reader.specs.Canonical.{canonical_text}
 use Rattle.npp_bounds.specs.declared.refusal.BoundsRefusal.TheVariants.{NoFreePath}
 use Rattle.npp_bounds.specs.Spans.{AreSpans, AllHaveFreePaths, IsBoundsRefusal, basic}
 use Rattle.npp_cli.specs.declared.words.FileJob.{FileJob}
 use Rattle.npp_cli.specs.declared.words.FileJob.TheVariants.{Solve, Bounds}
 use Rattle.npp_cli.specs.Words.{Job, on_file, generate, job_of}
+use Rattle.npp_cli.specs.Generated.{generated}
 use Rattle.npp_cli.specs.Printed.{PrintedReport, report_text}
 use Rattle.npp_cli.specs.Headline.{IsReportOf}
 use Rattle.npp_cli.specs.SpansText.{spans_text}
@@ -74,9 +76,9 @@ AnswersFile job (Some files) name status text =
 AnswersFile job None name status text =
     ((status ≡ 5) × (text ≡ shelf_fault_text name)) ⊎ ((file : Option (List ℕ)) × AnswersContent job name file status text)
 
--- a generated instance is printed with status 0
+-- the canonical text of the generated instance, with status 0
 abbrev pub AnswersNumber : ℕ → ℕ → List ℕ → Type 0
-AnswersNumber number status text = status ≡ 0
+AnswersNumber number status text = (status ≡ 0) × (text ≡ canonical_text (generated number))
 
 -- words that ask for no job are answered by the usage text, with status 2
 abbrev pub AnswersJob : Option Job → Option Files → ℕ → List ℕ → Type 0

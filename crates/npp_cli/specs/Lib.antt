@@ -10,3 +10,4 @@ pub mod Report
 pub mod Answer
 pub mod Plain
 pub mod Runs
+pub mod Claims

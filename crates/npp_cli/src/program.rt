@@ -1,8 +1,10 @@
 //! The top call: the words are read, the job is done, and its text is written.
 ghost use Rattle.std.specs.Prelude.{◌≡◌, ℕ, length, IfOk, string_bytes};
 ghost use Rattle.npp_outside.specs.Causes.{Rose};
+ghost use Rattle.npp_net.specs.Network.{Network};
 ghost use Rattle.npp_cli.specs.Words.{texts};
 ghost use Rattle.npp_cli.specs.Answers.{Answers, AnswersFile, AnswersBytes, instance_limit};
+ghost use Rattle.npp_cli.specs.Claims.{IsGiven, NothingFailed, PrintsReport, PrintsBounds};
 ghost use Rattle.npp_cli.specs.Runs.{Runs, HasAnswerCause};
 
 use crate::answers::{Answer, faulty_line, missing, shelf_fault, too_long, usage};
@@ -28,6 +30,10 @@ pub fn run<S: Shelf, O: Sink>(alloc: Global, words: &[String], shelf: &mut S, ou
     ensures missing { result ≡ 4 → Rose (S.misses shelf.old) (S.misses shelf.new) }
     ensures failed { result ≡ 5 → Rose (S.faults shelf.old) (S.faults shelf.new) }
     ensures sink { result ≡ 6 → Rose (O.faults out.old) (O.faults out.new) }
+    ensures headline { (net : Network) → IsGiven FileJob.Solve (texts words.now) (S.held shelf.old) net
+        → NothingFailed result → PrintsReport net (O.written out.old) (O.written out.new) result }
+    ensures bounds { (net : Network) → IsGiven FileJob.Bounds (texts words.now) (S.held shelf.old) net
+        → NothingFailed result → PrintsBounds net (O.written out.old) (O.written out.new) result }
     ensures answer { Runs (texts words.now) (S.held shelf.old) (O.written out.old) (O.written out.new) result }
 {
     match answer_to(alloc, words, shelf) {

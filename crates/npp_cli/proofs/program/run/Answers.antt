@@ -1,5 +1,6 @@
 use Rattle.std.proofs.Common.{string_bytes}
 use Rattle.npp_cli.specs.Words.{texts}
+use Rattle.npp_cli.proofs.ClaimLemmas.{prints_report, prints_bounds}
 use Rattle.npp_cli.proofs.RunLemmas.{answers_6, runs_whole}
 use Rattle.npp_cli.proofs.program.run.Goals as goal
 
@@ -11,3 +12,13 @@ returns-in-Ok-write_whole-clause-answer g c =
 pub returns-in-Ok-write_whole-clause-sink : goal.returns-in-Ok-write_whole-clause-sink
 returns-in-Ok-write_whole-clause-sink g c six =
     absurd (answers_6 (texts c.args.words.now) (g.S.Shelf.held c.args.shelf.now) c.in-Ok.answer.status (string_bytes c.in-Ok.answer.text) c.in-Ok.ensures.answer six)
+
+pub returns-in-Ok-write_whole-clause-headline : goal.returns-in-Ok-write_whole-clause-headline
+returns-in-Ok-write_whole-clause-headline g c =
+    prints_report (texts c.args.words.now) (g.S.Shelf.held c.args.shelf.now) (g.O.Sink.written c.args.out.now) (g.O.Sink.written c.write_whole.new.out)
+    c.in-Ok.answer.status (returns-in-Ok-write_whole-clause-answer g c)
+
+pub returns-in-Ok-write_whole-clause-bounds : goal.returns-in-Ok-write_whole-clause-bounds
+returns-in-Ok-write_whole-clause-bounds g c =
+    prints_bounds (texts c.args.words.now) (g.S.Shelf.held c.args.shelf.now) (g.O.Sink.written c.args.out.now) (g.O.Sink.written c.write_whole.new.out)
+    c.in-Ok.answer.status (returns-in-Ok-write_whole-clause-answer g c)

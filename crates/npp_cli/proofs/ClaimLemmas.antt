@@ -1,0 +1,61 @@
+-- From the answer to the words to the claims on a run.
+use Rattle.std.proofs.Common.{◌≡◌, ◌≢◌, ℕ, ◌<◌, ◌≤◌, ◌⊎◌, inl, inr, Bool, true, false, List, length, nat_lt, Option, None, Some, Result, Ok, Err, MatchBool, MatchResult, sym, ◌∙◌, subst, refl, arith, if◌then◌else◌}
+use Rattle.std.proofs.lemmas.Bool.Decides.{nat_tests}
+use Rattle.npp_outside.specs.Shelf.{Files, file_at}
+use Rattle.npp_net.specs.Network.{Network, no_commodity}
+use Rattle.npp_reader.specs.declared.document.Document.{Document}
+use Rattle.npp_reader.specs.declared.refusal.ReadRefusal.{ReadRefusal}
+use Rattle.npp_reader.specs.Reading.{reading_of}
+use Rattle.npp_cli.specs.declared.words.FileJob.{FileJob}
+use Rattle.npp_cli.specs.declared.words.FileJob.TheVariants.{Solve, Bounds}
+use Rattle.npp_cli.specs.Words.{Job, on_file, job_of}
+use Rattle.npp_cli.specs.Printed.{report_text}
+use Rattle.npp_cli.specs.SpansText.{spans_text}
+use Rattle.npp_cli.specs.Texts.{too_long_text}
+use Rattle.npp_cli.specs.Answers.{IsDone, AnswersInstance, AnswersFault, AnswersBytes, AnswersContent, AnswersFile, AnswersJob, Answers, instance_limit}
+use Rattle.npp_cli.specs.Claims.{IsGiven, NothingFailed, PrintsReport, PrintsBounds}
+use Rattle.npp_cli.specs.Runs.{Runs}
+
+module _ (job : FileJob) (status : ℕ) (text : List ℕ) where
+  short_bytes : (name bytes : List ℕ) → length bytes ≤ instance_limit → AnswersContent job name (Some bytes) status text → AnswersBytes job bytes status text
+  short_bytes name bytes short answers = by_length (nat_lt instance_limit (length bytes)) refl answers
+    where
+      by_length : (long : Bool) → nat_lt instance_limit (length bytes) ≡ long
+          → MatchBool long ((status ≡ 12) × (text ≡ too_long_text name)) (AnswersBytes job bytes status text) → AnswersBytes job bytes status text
+      by_length true is answers = absurd (grind (arith, nat_tests))
+      by_length false is answers = answers
+
+  unfailed : (files : Files) (name : List ℕ) → status ≢ 5 → AnswersFile job (Some files) name status text → AnswersContent job name (file_at files name) status text
+  unfailed files name not_5 (inl failed) = absurd (not_5 failed.0)
+  unfailed files name not_5 (inr content) = content
+
+  done_of : (words : List (List ℕ)) (held : Option Files) (net : Network) → IsGiven job words held net → AnswersInstance job net status text → IsDone job net status text
+  done_of words held net given (inl refused) = absurd (given.connected refused.0 no_commodity refused.1.0 refused.1.1)
+  done_of words held net given (inr done) = done.1
+
+  pub given_done : (words : List (List ℕ)) (held : Option Files) (net : Network) → IsGiven job words held net → status ≢ 5
+      → Answers words held status text → IsDone job net status text
+  given_done words held net given not_5 answers =
+      let OfJob : Option Job → Type 0 = λ j. AnswersJob j held status text in
+      let OfHeld : Option Files → Type 0 = λ h. AnswersFile job h given.name status text in
+      let OfFile : Option (List ℕ) → Type 0 = λ f. AnswersContent job given.name f status text in
+      let OfReading : Result Document ReadRefusal → Type 0 = λ r.
+      MatchResult r (λ document. AnswersInstance job document.instance status text) (λ fault. AnswersFault fault status text) in
+      let on_name = subst OfJob given.asks answers in
+      let content = unfailed given.files given.name not_5 (subst OfHeld given.told on_name) in
+      let on_bytes = short_bytes given.name given.bytes given.short (subst OfFile given.is_held content) in
+      done_of words held net given (subst OfReading given.stands_for on_bytes)
+
+pub prints_report : (words : List (List ℕ)) (held : Option Files) (old new : Option (List ℕ)) (status : ℕ) → Runs words held old new status
+    → (net : Network) → IsGiven Solve words held net → NothingFailed status → PrintsReport net old new status
+prints_report words held old new status runs net given nothing =
+    let whole = runs.whole nothing.sink nothing.memory in
+    let solved = given_done Solve status whole.0 words held net given nothing.shelf whole.1 in
+    record { report = solved.report; is_report = solved.is_report; grew = rw solved.is_text at whole.2; is_status = solved.is_status }
+
+pub prints_bounds : (words : List (List ℕ)) (held : Option Files) (old new : Option (List ℕ)) (status : ℕ) → Runs words held old new status
+    → (net : Network) → IsGiven Bounds words held net → NothingFailed status → PrintsBounds net old new status
+prints_bounds words held old new status runs net given nothing =
+    let whole = runs.whole nothing.sink nothing.memory in
+    let bounded = given_done Bounds status whole.0 words held net given nothing.shelf whole.1 in
+    record { spans = bounded.spans; are_spans = bounded.are_spans; grew = rw bounded.is_text at whole.2; is_status = bounded.is_status }

@@ -1,0 +1,52 @@
+-- What a run owes where nothing stands in its way: the claims that a reader of the output can count on.
+use Rattle.std.specs.Prelude.{◌≡◌, ◌≢◌, ◌⊎◌, ℕ, ◌≤◌, List, length, Option, None, Some, Ok, if◌then◌else◌}
+use Rattle.npp_outside.specs.Shelf.{Files, file_at}
+use Rattle.npp_outside.specs.Sink.{GrewBy}
+use Rattle.npp_net.specs.declared.types.Span.{Span}
+use Rattle.npp_net.specs.Network.{Network}
+use Rattle.npp_reader.specs.Reading.{reading_of}
+use Rattle.npp_bounds.specs.Spans.{AreSpans, AllHaveFreePaths, basic}
+use Rattle.npp_cli.specs.declared.words.FileJob.{FileJob}
+use Rattle.npp_cli.specs.Words.{on_file, job_of}
+use Rattle.npp_cli.specs.Printed.{PrintedReport, report_text}
+use Rattle.npp_cli.specs.SpansText.{spans_text}
+use Rattle.npp_cli.specs.Headline.{IsReportOf}
+use Rattle.npp_cli.specs.Answers.{instance_limit}
+
+-- the words ask for this job on a file that is held, whose bytes are few enough and stand for this network,
+-- and each commodity of it has a toll-free walk
+pub record IsGiven (job : FileJob) (words : List (List ℕ)) (held : Option Files) (net : Network) : Type 0 where
+  pub name : List ℕ
+  pub files : Files
+  pub bytes : List ℕ
+  pub names : List (List ℕ)
+  pub asks : job_of words ≡ Some (on_file job name)
+  pub told : held ≡ Some files
+  pub is_held : file_at files name ≡ Some bytes
+  pub short : length bytes ≤ instance_limit
+  pub stands_for : reading_of bytes ≡ Ok (record { names = names; instance = net })
+  pub connected : AllHaveFreePaths net.arcs net.commodities
+
+-- neither shelf nor sink failed, and there was memory
+pub record NothingFailed (status : ℕ) : Type 0 where
+  pub shelf : status ≢ 5
+  pub sink : status ≢ 6
+  pub memory : status ≢ 7
+
+-- all that was written is a report that is true of the network; its status is 0 where it is optimal, and else 1
+pub record PrintsReport (net : Network) (old new : Option (List ℕ)) (status : ℕ) : Type 0 where
+  pub report : PrintedReport
+  pub is_report : IsReportOf net report
+  pub grew : GrewBy old new (report_text report)
+  pub is_status : status ≡ (if report.optimal then 0 else 1)
+
+-- all that was written are the least costs of each commodity and the basic bound, with status 0
+pub record PrintsBounds (net : Network) (old new : Option (List ℕ)) (status : ℕ) : Type 0 where
+  pub spans : List Span
+  pub are_spans : AreSpans net.arcs net.commodities spans
+  pub grew : GrewBy old new (spans_text spans (basic net.commodities spans))
+  pub is_status : status ≡ 0
+
+-- this status, but where the sink failed or memory was wanting
+abbrev pub IsStatusOrStop : ℕ → ℕ → Type 0
+IsStatusOrStop expected status = (status ≡ expected) ⊎ ((status ≡ 6) ⊎ (status ≡ 7))
