@@ -8,13 +8,16 @@ use Rattle.npp_reader.specs.declared.refusal.ReadRefusal.{ReadRefusal}
 use Rattle.npp_reader.specs.Reading.{reading_of}
 use Rattle.npp_cli.specs.declared.words.FileJob.{FileJob}
 use Rattle.npp_cli.specs.declared.words.FileJob.TheVariants.{Solve, Bounds}
-use Rattle.npp_cli.specs.Words.{Job, on_file, job_of}
+use Rattle.npp_cli.specs.Words.{Job, on_file, generate, job_of}
+use Rattle.npp_reader.specs.Canonical.{canonical_text}
+use Rattle.npp_cli.specs.Generated.{generated}
 use Rattle.npp_cli.specs.Printed.{report_text}
 use Rattle.npp_cli.specs.SpansText.{spans_text}
-use Rattle.npp_cli.specs.Texts.{too_long_text}
-use Rattle.npp_cli.specs.Answers.{IsDone, AnswersInstance, AnswersFault, AnswersBytes, AnswersContent, AnswersFile, AnswersJob, Answers, instance_limit}
-use Rattle.npp_cli.specs.Claims.{IsGiven, NothingFailed, PrintsReport, PrintsBounds}
+use Rattle.npp_cli.specs.Texts.{too_long_text, usage_text}
+use Rattle.npp_cli.specs.Answers.{IsDone, AnswersInstance, AnswersFault, AnswersBytes, AnswersContent, AnswersFile, AnswersJob, AnswersNumber, Answers, instance_limit}
+use Rattle.npp_cli.specs.Claims.{IsGiven, IsAsked, NothingFailed, WasWritten, Prints, PrintsAbout, PrintsReport, PrintsBounds}
 use Rattle.npp_cli.specs.Runs.{Runs}
+use Rattle.npp_cli.proofs.StatusLemmas.{other_2, no_shelf_2, file_status}
 
 module _ (job : FileJob) (status : ℕ) (text : List ℕ) where
   short_bytes : (name bytes : List ℕ) → length bytes ≤ instance_limit → AnswersContent job name (Some bytes) status text → AnswersBytes job bytes status text
@@ -59,3 +62,50 @@ prints_bounds words held old new status runs net given nothing =
     let whole = runs.whole nothing.sink nothing.memory in
     let bounded = given_done Bounds status whole.0 words held net given nothing.shelf whole.1 in
     record { spans = bounded.spans; are_spans = bounded.are_spans; grew = rw bounded.is_text at whole.2; is_status = bounded.is_status }
+
+usage_of : (status : ℕ) (text : List ℕ) (held : Option Files) (job : Option Job) → job ≡ None → AnswersJob job held status text → (status ≡ 2) × (text ≡ usage_text)
+usage_of status text held job none answers = let OfJob : Option Job → Type 0 = λ j. AnswersJob j held status text in subst OfJob none answers
+
+pub prints_usage : (words : List (List ℕ)) (held : Option Files) (old new : Option (List ℕ)) (status : ℕ) → Runs words held old new status
+    → job_of words ≡ None → WasWritten status → Prints usage_text 2 old new status
+prints_usage words held old new status runs none written =
+    let whole = runs.whole written.sink written.memory in
+    let usage = usage_of status whole.0 held (job_of words) none whole.1 in
+    record { grew = rw usage.1 at whole.2; is_status = usage.0 }
+
+only_usage : (job : Option Job) (status : ℕ) → status ≡ 2 → (text : List ℕ) (held : Option Files) → AnswersJob job held status text → job ≡ None
+only_usage None status two text held answers = refl
+only_usage (Some (on_file job name)) status two text held answers = absurd (file_status 2 status other_2 no_shelf_2 two job held name text answers)
+only_usage (Some (generate number)) status two text held answers = absurd (let zero_is = answers.0 in omega (arith, two, zero_is))
+
+pub usage_only : (words : List (List ℕ)) (held : Option Files) (old new : Option (List ℕ)) (status : ℕ) → Runs words held old new status
+    → status ≡ 2 → job_of words ≡ None
+usage_only words held old new status runs two =
+    let whole = runs.whole (λ e. omega (arith, two, e)) (λ e. omega (arith, two, e)) in
+    only_usage (job_of words) status two whole.0 held whole.1
+
+number_of_job : (status : ℕ) (text : List ℕ) (held : Option Files) (number : ℕ) (job : Option Job) → job ≡ Some (generate number)
+    → AnswersJob job held status text → AnswersNumber number status text
+number_of_job status text held number job is answers = let OfJob : Option Job → Type 0 = λ j. AnswersJob j held status text in subst OfJob is answers
+
+pub prints_generated : (words : List (List ℕ)) (held : Option Files) (old new : Option (List ℕ)) (status : ℕ) → Runs words held old new status
+    → (number : ℕ) → job_of words ≡ Some (generate number) → WasWritten status → Prints (canonical_text (generated number)) 0 old new status
+prints_generated words held old new status runs number is written =
+    let whole = runs.whole written.sink written.memory in
+    let printed = number_of_job status whole.0 held number (job_of words) is whole.1 in
+    record { grew = rw printed.1 at whole.2; is_status = printed.0 }
+
+asked_content : (job : FileJob) (name : List ℕ) (files : Files) (words : List (List ℕ)) (held : Option Files) (status : ℕ) (text : List ℕ)
+    → IsAsked job name files words held → status ≢ 5 → Answers words held status text → AnswersContent job name (file_at files name) status text
+asked_content job name files words held status text asked not_5 answers =
+    let OfJob : Option Job → Type 0 = λ j. AnswersJob j held status text in
+    let OfHeld : Option Files → Type 0 = λ h. AnswersFile job h name status text in
+    let on_name = subst OfJob asked.asks answers in
+    unfailed job status text files name not_5 (subst OfHeld asked.told on_name)
+
+pub prints_about : (words : List (List ℕ)) (held : Option Files) (old new : Option (List ℕ)) (status : ℕ) → Runs words held old new status
+    → (job : FileJob) (name : List ℕ) (files : Files) → IsAsked job name files words held → NothingFailed status
+    → PrintsAbout job name (file_at files name) old new status
+prints_about words held old new status runs job name files asked nothing =
+    let whole = runs.whole nothing.sink nothing.memory in
+    record { text = whole.0; answers = asked_content job name files words held status whole.0 asked nothing.shelf whole.1; grew = whole.2 }

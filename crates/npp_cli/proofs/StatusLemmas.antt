@@ -67,3 +67,9 @@ file_status n status other none is job None name text (inl failed) = none.not_5 
 file_status n status other none is job None name text (inr (file, answers)) = content_status n status other none is job name text file answers
 file_status n status other none is job (Some files) name text (inl failed) = none.not_5 (sym is ∙ failed.0)
 file_status n status other none is job (Some files) name text (inr answers) = content_status n status other none is job name text (file_at files name) answers
+
+pub other_2 : IsOther 2
+other_2 = record { not_0 = λ e. omega (arith, e); not_1 = λ e. omega (arith, e); not_3 = λ e. omega (arith, e); not_10 = λ e. omega (arith, e) }
+
+pub no_shelf_2 : IsNoShelfStatus 2
+no_shelf_2 = record { not_4 = λ e. omega (arith, e); not_5 = λ e. omega (arith, e); not_12 = λ e. omega (arith, e) }

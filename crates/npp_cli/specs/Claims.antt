@@ -1,5 +1,5 @@
 -- What a run owes where nothing stands in its way: the claims that a reader of the output can count on.
-use Rattle.std.specs.Prelude.{◌≡◌, ◌≢◌, ◌⊎◌, ℕ, ◌≤◌, List, length, Option, None, Some, Ok, if◌then◌else◌}
+use Rattle.std.specs.Prelude.{◌≡◌, ◌≢◌, ℕ, ◌≤◌, List, length, Option, None, Some, Ok, if◌then◌else◌}
 use Rattle.npp_outside.specs.Shelf.{Files, file_at}
 use Rattle.npp_outside.specs.Sink.{GrewBy}
 use Rattle.npp_net.specs.declared.types.Span.{Span}
@@ -11,7 +11,7 @@ use Rattle.npp_cli.specs.Words.{on_file, job_of}
 use Rattle.npp_cli.specs.Printed.{PrintedReport, report_text}
 use Rattle.npp_cli.specs.SpansText.{spans_text}
 use Rattle.npp_cli.specs.Headline.{IsReportOf}
-use Rattle.npp_cli.specs.Answers.{instance_limit}
+use Rattle.npp_cli.specs.Answers.{AnswersContent, instance_limit}
 
 -- the words ask for this job on a file that is held, whose bytes are few enough and stand for this network,
 -- and each commodity of it has a toll-free walk
@@ -26,6 +26,16 @@ pub record IsGiven (job : FileJob) (words : List (List ℕ)) (held : Option File
   pub short : length bytes ≤ instance_limit
   pub stands_for : reading_of bytes ≡ Ok (record { names = names; instance = net })
   pub connected : AllHaveFreePaths net.arcs net.commodities
+
+-- the words ask for this job on the file of this name, and the shelf tells that it holds these files
+pub record IsAsked (job : FileJob) (name : List ℕ) (files : Files) (words : List (List ℕ)) (held : Option Files) : Type 0 where
+  pub asks : job_of words ≡ Some (on_file job name)
+  pub told : held ≡ Some files
+
+-- the sink did not fail, and there was memory
+pub record WasWritten (status : ℕ) : Type 0 where
+  pub sink : status ≢ 6
+  pub memory : status ≢ 7
 
 -- neither shelf nor sink failed, and there was memory
 pub record NothingFailed (status : ℕ) : Type 0 where
@@ -47,6 +57,13 @@ pub record PrintsBounds (net : Network) (old new : Option (List ℕ)) (status : 
   pub grew : GrewBy old new (spans_text spans (basic net.commodities spans))
   pub is_status : status ≡ 0
 
--- this status, but where the sink failed or memory was wanting
-abbrev pub IsStatusOrStop : ℕ → ℕ → Type 0
-IsStatusOrStop expected status = (status ≡ expected) ⊎ ((status ≡ 6) ⊎ (status ≡ 7))
+-- all that was written is this text, and the status is this one
+pub record Prints (text : List ℕ) (expected : ℕ) (old new : Option (List ℕ)) (status : ℕ) : Type 0 where
+  pub grew : GrewBy old new text
+  pub is_status : status ≡ expected
+
+-- all that was written is the text of the answer about a file that is missing or has these bytes, whose status it is
+pub record PrintsAbout (job : FileJob) (name : List ℕ) (file : Option (List ℕ)) (old new : Option (List ℕ)) (status : ℕ) : Type 0 where
+  pub text : List ℕ
+  pub answers : AnswersContent job name file status text
+  pub grew : GrewBy old new text

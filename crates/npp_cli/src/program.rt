@@ -1,10 +1,14 @@
 //! The top call: the words are read, the job is done, and its text is written.
-ghost use Rattle.std.specs.Prelude.{◌≡◌, ℕ, length, IfOk, string_bytes};
+ghost use Rattle.std.specs.Prelude.{◌≡◌, ℕ, List, None, Some, IfOk, string_bytes};
 ghost use Rattle.npp_outside.specs.Causes.{Rose};
+ghost use Rattle.npp_outside.specs.Shelf.{Files, file_at};
 ghost use Rattle.npp_net.specs.Network.{Network};
-ghost use Rattle.npp_cli.specs.Words.{texts};
+ghost use Rattle.npp_reader.specs.Canonical.{canonical_text};
+ghost use Rattle.npp_cli.specs.Generated.{generated};
+ghost use Rattle.npp_cli.specs.Texts.{usage_text};
+ghost use Rattle.npp_cli.specs.Words.{texts, job_of, generate};
 ghost use Rattle.npp_cli.specs.Answers.{Answers, AnswersFile, AnswersBytes, instance_limit};
-ghost use Rattle.npp_cli.specs.Claims.{IsGiven, NothingFailed, PrintsReport, PrintsBounds};
+ghost use Rattle.npp_cli.specs.Claims.{IsGiven, IsAsked, NothingFailed, WasWritten, Prints, PrintsAbout, PrintsReport, PrintsBounds};
 ghost use Rattle.npp_cli.specs.Runs.{Runs, HasAnswerCause};
 
 use crate::answers::{Answer, faulty_line, missing, shelf_fault, too_long, usage};
@@ -27,13 +31,28 @@ const INSTANCE_LIMIT: usize = 4_194_304;
 /// that is written.
 pub fn run<S: Shelf, O: Sink>(alloc: Global, words: &[String], shelf: &mut S, out: &mut O) -> u8
     ensures held { S.held shelf.new ≡ S.held shelf.old }
+
+    // Missing, a fault of the shelf and a fault of the sink come only where they were counted.
     ensures missing { result ≡ 4 → Rose (S.misses shelf.old) (S.misses shelf.new) }
     ensures failed { result ≡ 5 → Rose (S.faults shelf.old) (S.faults shelf.new) }
     ensures sink { result ≡ 6 → Rose (O.faults out.old) (O.faults out.new) }
+
+    // What is printed of an instance is true of all walks and of all tolls.
     ensures headline { (net : Network) → IsGiven FileJob.Solve (texts words.now) (S.held shelf.old) net
         → NothingFailed result → PrintsReport net (O.written out.old) (O.written out.new) result }
     ensures bounds { (net : Network) → IsGiven FileJob.Bounds (texts words.now) (S.held shelf.old) net
         → NothingFailed result → PrintsBounds net (O.written out.old) (O.written out.new) result }
+
+    // Each answer comes exactly by its cause, and its text is all that is written.
+    ensures on_file { (job : FileJob) (name : List ℕ) (files : Files) → IsAsked job name files (texts words.now) (S.held shelf.old)
+        → NothingFailed result → PrintsAbout job name (file_at files name) (O.written out.old) (O.written out.new) result }
+    ensures generated { (number : ℕ) → job_of (texts words.now) ≡ Some (generate number)
+        → WasWritten result → Prints (canonical_text (generated number)) 0 (O.written out.old) (O.written out.new) result }
+    ensures usage { job_of (texts words.now) ≡ None
+        → WasWritten result → Prints usage_text 2 (O.written out.old) (O.written out.new) result }
+    ensures usage_only { result ≡ 2 → job_of (texts words.now) ≡ None }
+
+    // Whatever the outcome, what is written is a text that answers the words, or the beginning of one.
     ensures answer { Runs (texts words.now) (S.held shelf.old) (O.written out.old) (O.written out.new) result }
 {
     match answer_to(alloc, words, shelf) {

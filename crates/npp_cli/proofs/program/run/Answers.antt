@@ -1,6 +1,6 @@
 use Rattle.std.proofs.Common.{string_bytes}
 use Rattle.npp_cli.specs.Words.{texts}
-use Rattle.npp_cli.proofs.ClaimLemmas.{prints_report, prints_bounds}
+use Rattle.npp_cli.proofs.ClaimLemmas.{prints_about, prints_bounds, prints_generated, prints_report, prints_usage, usage_only}
 use Rattle.npp_cli.proofs.RunLemmas.{answers_6, runs_whole}
 use Rattle.npp_cli.proofs.program.run.Goals as goal
 
@@ -21,4 +21,24 @@ returns-in-Ok-write_whole-clause-headline g c =
 pub returns-in-Ok-write_whole-clause-bounds : goal.returns-in-Ok-write_whole-clause-bounds
 returns-in-Ok-write_whole-clause-bounds g c =
     prints_bounds (texts c.args.words.now) (g.S.Shelf.held c.args.shelf.now) (g.O.Sink.written c.args.out.now) (g.O.Sink.written c.write_whole.new.out)
+    c.in-Ok.answer.status (returns-in-Ok-write_whole-clause-answer g c)
+
+pub returns-in-Ok-write_whole-clause-on_file : goal.returns-in-Ok-write_whole-clause-on_file
+returns-in-Ok-write_whole-clause-on_file g c =
+    prints_about (texts c.args.words.now) (g.S.Shelf.held c.args.shelf.now) (g.O.Sink.written c.args.out.now) (g.O.Sink.written c.write_whole.new.out)
+    c.in-Ok.answer.status (returns-in-Ok-write_whole-clause-answer g c)
+
+pub returns-in-Ok-write_whole-clause-generated : goal.returns-in-Ok-write_whole-clause-generated
+returns-in-Ok-write_whole-clause-generated g c =
+    prints_generated (texts c.args.words.now) (g.S.Shelf.held c.args.shelf.now) (g.O.Sink.written c.args.out.now) (g.O.Sink.written c.write_whole.new.out)
+    c.in-Ok.answer.status (returns-in-Ok-write_whole-clause-answer g c)
+
+pub returns-in-Ok-write_whole-clause-usage : goal.returns-in-Ok-write_whole-clause-usage
+returns-in-Ok-write_whole-clause-usage g c =
+    prints_usage (texts c.args.words.now) (g.S.Shelf.held c.args.shelf.now) (g.O.Sink.written c.args.out.now) (g.O.Sink.written c.write_whole.new.out)
+    c.in-Ok.answer.status (returns-in-Ok-write_whole-clause-answer g c)
+
+pub returns-in-Ok-write_whole-clause-usage_only : goal.returns-in-Ok-write_whole-clause-usage_only
+returns-in-Ok-write_whole-clause-usage_only g c =
+    usage_only (texts c.args.words.now) (g.S.Shelf.held c.args.shelf.now) (g.O.Sink.written c.args.out.now) (g.O.Sink.written c.write_whole.new.out)
     c.in-Ok.answer.status (returns-in-Ok-write_whole-clause-answer g c)
