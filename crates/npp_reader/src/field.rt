@@ -9,6 +9,12 @@ ghost use Rattle.npp_reader.specs.Grammar as grammar;
 
 use crate::kind::LineKind;
 
+/// The most bytes of a name.
+const MAX_NAME: usize = 32;
+
+/// The most digits of a number, leading zeros included.
+const MAX_DIGITS: usize = 18;
+
 /// The greatest cost and the greatest demand.
 const MAX_NUMBER: u64 = 1_000_000;
 
@@ -28,7 +34,7 @@ fn are_name_bytes(field: &[u8]) -> bool
 fn is_name(field: &[u8]) -> bool
     ensures { result ≡ fields.is_name field.now }
 {
-    !field.is_empty() && field.len() <= 32 && are_name_bytes(field)
+    !field.is_empty() && field.len() <= MAX_NAME && are_name_bytes(field)
 }
 
 /// The text of a field that is a name.
@@ -56,7 +62,7 @@ fn are_digits(field: &[u8]) -> bool
 fn is_number(field: &[u8]) -> bool
     ensures { result ≡ fields.is_number field.now }
 {
-    !field.is_empty() && field.len() <= 18 && are_digits(field)
+    !field.is_empty() && field.len() <= MAX_DIGITS && are_digits(field)
 }
 
 /// The value of a field that is a number.
