@@ -7,3 +7,4 @@ pub mod ReadLemmas
 pub mod RefusalLemmas
 pub mod FieldLines
 pub mod RoundTrip
+pub mod DeclaredLemmas

@@ -19,7 +19,7 @@ use Rattle.npp_reader.specs.Grammar.{Declared, judged, and_then, link_of, node_f
 use Rattle.npp_reader.specs.Taking.{IsWithin}
 
 -- no row's test holds
-abbrev AllFalse : List (Bool × LineKind) → Type 0
+abbrev pub AllFalse : List (Bool × LineKind) → Type 0
 AllFalse [] = Unit {0}
 AllFalse (row ∷ rows) = (row.0 ≡ false) × AllFalse rows
 
@@ -27,14 +27,14 @@ judged_step : {X : Type 0} (b : Bool) (kind : LineKind) (rest : Result X LineKin
 judged_step true kind rest y e = absurd cc
 judged_step false kind rest y e = (refl, e)
 
-judged_ok : {X : Type 0} (rows : List (Bool × LineKind)) (x y : X) → judged rows x ≡ Ok y → AllFalse rows × (x ≡ y)
+pub judged_ok : {X : Type 0} (rows : List (Bool × LineKind)) (x y : X) → judged rows x ≡ Ok y → AllFalse rows × (x ≡ y)
 judged_ok [] x y e = (tt, cc)
 judged_ok (row ∷ rows) x y e =
     let step = judged_step row.0 row.1 (judged rows x) y e in
     let rest = judged_ok rows x y step.1 in
     ((step.0, rest.0), rest.1)
 
-not_false : (b : Bool) → not b ≡ false → b ≡ true
+pub not_false : (b : Bool) → not b ≡ false → b ≡ true
 not_false true e = refl
 not_false false e = absurd cc
 

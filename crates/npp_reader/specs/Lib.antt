@@ -5,4 +5,5 @@ pub mod Names
 pub mod Grammar
 pub mod Reading
 pub mod Canonical
+pub mod Declaring
 pub mod Taking

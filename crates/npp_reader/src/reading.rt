@@ -2,6 +2,7 @@
 
 ghost use Rattle.std.specs.Prelude.{◌≡◌, ◌⊎◌, Err, length, IfOk};
 ghost use Rattle.npp_net.specs.Network.{IsNetwork};
+ghost use Rattle.npp_reader.specs.Declaring.{Declares};
 ghost use Rattle.npp_reader.specs.Names.{AreNames};
 ghost use Rattle.npp_reader.specs.Reading.{reading_of};
 
@@ -19,6 +20,7 @@ use std::alloc::Global;
 /// `pair ORIGIN DESTINATION DEMAND`, in any order that declares each name before it is used.
 pub fn read(alloc: Global, bytes: &[u8]) -> Result<Document, ReadRefusal>
     ensures answer { (result ≡ Err ReadRefusal.Memory) ⊎ (result ≡ reading_of bytes.now) }
+    ensures declared { IfOk result (Declares bytes.now) }
     ensures limits { IfOk result (λ document. IsNetwork document.instance) }
     ensures names { IfOk result (λ document. AreNames document.names) }
     ensures count { IfOk result (λ document. length document.names ≡ document.instance.nodes) }

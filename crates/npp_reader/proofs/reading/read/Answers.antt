@@ -1,9 +1,10 @@
-use Rattle.std.proofs.Common.{inr, ℕ, List, Err, sym, ◌∙◌, ap, arith, subst}
+use Rattle.std.proofs.Common.{inr, ℕ, List, Ok, Err, ◌≡◌, sym, ◌∙◌, ap, arith, subst}
 use Rattle.std.proofs.lemmas.Bool.Decides.{nat_tests}
 use Rattle.npp_reader.specs.Lines.{lines_of}
-use Rattle.npp_reader.specs.Reading.{reading_from}
+use Rattle.npp_reader.specs.Reading.{reading_from, reading_of}
 use Rattle.npp_reader.specs.Taking.{refusal_at}
 use Rattle.npp_reader.proofs.ReadLemmas.{nothing_within, reading_begins, reading_step, reading_ends, none_left, refused_end, IsAnswer}
+use Rattle.npp_reader.proofs.DeclaredLemmas.{document_declared}
 use Rattle.npp_reader.proofs.WithinLemmas.{line_within}
 use Rattle.npp_reader.proofs.reading.read.Goals as goal
 
@@ -19,11 +20,18 @@ loop-rest-preserved c =
       line_within c.loop-rest.draft c.take.new.self c.loop-rest.invariant.2 c.split_line.result.0.now c.in_default.ensures.taken,
     )
 
-pub returns-in-Ok-clause-answer : goal.returns-in-Ok-clause-answer
-returns-in-Ok-clause-answer c =
+-- the document is what the bytes stand for
+stands : (c : goal.In-Ok) → Ok c.in-Ok.document ≡ reading_of c.args.bytes.now
+stands c =
     let none = none_left c.loop-rest.rest.now (grind (arith, nat_tests)) in
-    inr (sym (reading_ends c.loop-rest.line c.loop-rest.draft c.in-Ok.document c.in-Ok.ensures.document)
-    ∙ (ap (λ (bytes : List ℕ). reading_from c.loop-rest.line c.loop-rest.draft (lines_of bytes)) (sym none) ∙ c.loop-rest.invariant.0))
+    sym (reading_ends c.loop-rest.line c.loop-rest.draft c.in-Ok.document c.in-Ok.ensures.document)
+    ∙ (ap (λ (bytes : List ℕ). reading_from c.loop-rest.line c.loop-rest.draft (lines_of bytes)) (sym none) ∙ c.loop-rest.invariant.0)
+
+pub returns-in-Ok-clause-answer : goal.returns-in-Ok-clause-answer
+returns-in-Ok-clause-answer c = inr (stands c)
+
+pub returns-in-Ok-clause-declared : goal.returns-in-Ok-clause-declared
+returns-in-Ok-clause-declared c = document_declared c.args.bytes.now c.in-Ok.document (sym (stands c))
 
 pub returns-in-Err-finish-clause-answer : goal.returns-in-Err-finish-clause-answer
 returns-in-Err-finish-clause-answer c =
