@@ -10,8 +10,9 @@ fn parts<N: Exact>(value: N) -> (i128, i128) {
     (value.num(), value.den())
 }
 
-/// The numbers of -1/3, and of its sum and product with 1/2, its difference from 1/2 and its floor.
-fn worked<N: Exact>() -> Option<[(i128, i128); 5]> {
+/// The numbers of -1/3 at two widths, its sum and product with 1/2, its difference from 1/2 and its
+/// floor; and its order to 1/2.
+fn worked<N: Exact>() -> Option<([(i128, i128); 6], Ordering)> {
     let one = N::of_whole(1);
     let Ok(half) = one.div(N::of_whole(2)) else {
         return None;
@@ -23,18 +24,21 @@ fn worked<N: Exact>() -> Option<[(i128, i128); 5]> {
     else {
         return None;
     };
-    Some([
+    let numbers = [
         parts(third),
+        parts(third.widen()),
         parts(sum),
         parts(difference),
         parts(product),
         parts(third.floor()),
-    ])
+    ];
+    Some((numbers, third.cmp(half)))
 }
 
 #[test]
 fn works_at_each_width(rt: HostRuntime) {
-    let want = Some([(-1, 3), (1, 6), (5, 6), (-1, 6), (-1, 1)]);
+    let numbers = [(-1, 3), (-1, 3), (1, 6), (5, 6), (-1, 6), (-1, 1)];
+    let want = Some((numbers, Ordering::Less));
     assert_eq!(rt; worked::<Frac32>(), want);
     assert_eq!(rt; worked::<Frac64>(), want);
     assert_eq!(rt; worked::<Frac128>(), want);
