@@ -15,6 +15,7 @@ use crate::numbers::{
 use crate::reduced::Reduced;
 
 /// The pair of a numerator and a denominator whose greatest common divisor is given.
+#[inline(always)]
 pub fn reduced(num: i128, den: u128, divisor: u128) -> Reduced
     requires positive { 0 < den }
     requires num { nat_abs num < 2 ^ 127 }
@@ -31,6 +32,7 @@ pub fn reduced(num: i128, den: u128, divisor: u128) -> Reduced
 }
 
 /// The sum, where its numbers are below the limit.
+#[inline(always)]
 pub fn sum(a: Reduced, b: Reduced, limit: u128) -> Option<Reduced>
     requires { limit ≤ 2 ^ 127 }
     ensures fits { IsSome result ↔ FitsAdd limit (value_of a) (value_of b) }
@@ -49,6 +51,7 @@ pub fn sum(a: Reduced, b: Reduced, limit: u128) -> Option<Reduced>
 }
 
 /// The product, where its numbers are below the limit.
+#[inline(always)]
 pub fn product(a: Reduced, b: Reduced, limit: u128) -> Option<Reduced>
     requires { limit ≤ 2 ^ 127 }
     ensures fits { IsSome result ↔ FitsMul limit (value_of a) (value_of b) }
@@ -111,6 +114,7 @@ pub fn floor(a: Reduced) -> Reduced
 }
 
 /// The sum, by the rule as a test.
+#[inline(always)]
 pub fn add(a: Reduced, b: Reduced, limit: u128) -> Option<Reduced>
     requires { limit ≤ 2 ^ 127 }
     ensures fits { is_some result ≡ fits_add limit (value_of a) (value_of b) }
@@ -121,6 +125,7 @@ pub fn add(a: Reduced, b: Reduced, limit: u128) -> Option<Reduced>
 }
 
 /// The difference.
+#[inline(always)]
 pub fn sub(a: Reduced, b: Reduced, limit: u128) -> Option<Reduced>
     requires { limit ≤ 2 ^ 127 }
     ensures fits { is_some result ≡ fits_sub limit (value_of a) (value_of b) }
@@ -131,6 +136,7 @@ pub fn sub(a: Reduced, b: Reduced, limit: u128) -> Option<Reduced>
 }
 
 /// The product, by the rule as a test.
+#[inline(always)]
 pub fn mul(a: Reduced, b: Reduced, limit: u128) -> Option<Reduced>
     requires { limit ≤ 2 ^ 127 }
     ensures fits { is_some result ≡ fits_mul limit (value_of a) (value_of b) }

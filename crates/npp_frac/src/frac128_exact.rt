@@ -33,6 +33,7 @@ impl Exact for Frac128 {
     }
 
     #[tactic(auto, unfolding(crate::specs::Wide::value_of_wide))]
+    #[inline(always)]
     fn add(self, other: Frac128) -> Result<Frac128, Overflow<Frac128>> {
         match arithmetic::add(self.pair, other.pair, LIMIT) {
             Some(pair) => Ok(Frac128 { pair }),
@@ -45,6 +46,7 @@ impl Exact for Frac128 {
     }
 
     #[tactic(auto, unfolding(crate::specs::Wide::value_of_wide))]
+    #[inline(always)]
     fn sub(self, other: Frac128) -> Result<Frac128, Overflow<Frac128>> {
         match arithmetic::sub(self.pair, other.pair, LIMIT) {
             Some(pair) => Ok(Frac128 { pair }),
@@ -57,6 +59,7 @@ impl Exact for Frac128 {
     }
 
     #[tactic(auto, unfolding(crate::specs::Wide::value_of_wide))]
+    #[inline(always)]
     fn mul(self, other: Frac128) -> Result<Frac128, Overflow<Frac128>> {
         match arithmetic::mul(self.pair, other.pair, LIMIT) {
             Some(pair) => Ok(Frac128 { pair }),

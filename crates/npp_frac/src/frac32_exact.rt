@@ -34,6 +34,7 @@ impl Exact for Frac32 {
     }
 
     #[tactic(auto, unfolding(crate::specs::Narrow::value_of_32))]
+    #[inline(always)]
     fn add(self, other: Frac32) -> Result<Frac32, Overflow<Frac32>> {
         match arithmetic::add(self.pair, other.pair, LIMIT) {
             Some(pair) => Ok(Frac32 { pair }),
@@ -46,6 +47,7 @@ impl Exact for Frac32 {
     }
 
     #[tactic(auto, unfolding(crate::specs::Narrow::value_of_32))]
+    #[inline(always)]
     fn sub(self, other: Frac32) -> Result<Frac32, Overflow<Frac32>> {
         match arithmetic::sub(self.pair, other.pair, LIMIT) {
             Some(pair) => Ok(Frac32 { pair }),
@@ -58,6 +60,7 @@ impl Exact for Frac32 {
     }
 
     #[tactic(auto, unfolding(crate::specs::Narrow::value_of_32))]
+    #[inline(always)]
     fn mul(self, other: Frac32) -> Result<Frac32, Overflow<Frac32>> {
         match arithmetic::mul(self.pair, other.pair, LIMIT) {
             Some(pair) => Ok(Frac32 { pair }),

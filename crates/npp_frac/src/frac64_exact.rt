@@ -34,6 +34,7 @@ impl Exact for Frac64 {
     }
 
     #[tactic(auto, unfolding(crate::specs::Narrow::value_of_64))]
+    #[inline(always)]
     fn add(self, other: Frac64) -> Result<Frac64, Overflow<Frac64>> {
         match arithmetic::add(self.pair, other.pair, LIMIT) {
             Some(pair) => Ok(Frac64 { pair }),
@@ -46,6 +47,7 @@ impl Exact for Frac64 {
     }
 
     #[tactic(auto, unfolding(crate::specs::Narrow::value_of_64))]
+    #[inline(always)]
     fn sub(self, other: Frac64) -> Result<Frac64, Overflow<Frac64>> {
         match arithmetic::sub(self.pair, other.pair, LIMIT) {
             Some(pair) => Ok(Frac64 { pair }),
@@ -58,6 +60,7 @@ impl Exact for Frac64 {
     }
 
     #[tactic(auto, unfolding(crate::specs::Narrow::value_of_64))]
+    #[inline(always)]
     fn mul(self, other: Frac64) -> Result<Frac64, Overflow<Frac64>> {
         match arithmetic::mul(self.pair, other.pair, LIMIT) {
             Some(pair) => Ok(Frac64 { pair }),

@@ -4,6 +4,7 @@ ghost use Rattle.std.specs.Prelude.{◌≡◌, ◌<◌, ◌≤◌, ◌^◌, ◌*
 ghost use Rattle.std.specs.Int.{int_div_euclid};
 
 /// The size of a number.
+#[inline(always)]
 pub fn size(a: i128) -> u128
     ensures { result ≡ nat_abs a }
 {
@@ -30,6 +31,7 @@ pub fn with_sign(size: u128, sign: i128) -> i128
 }
 
 /// The quotient by a positive number, rounded toward zero.
+#[inline(always)]
 pub fn quotient(a: i128, by: u128) -> i128
     requires positive { 0 < by }
     requires below { by < 2 ^ 127 }
@@ -52,6 +54,7 @@ fn truncated(a: i128, by: u128) -> i128
 }
 
 /// The quotient of two numbers that are not negative.
+#[inline(always)]
 pub fn divided(a: u128, by: u128) -> u128
     requires { 0 < by }
     ensures exact { result ≡ a / by }
@@ -72,6 +75,7 @@ pub fn quotient_down(a: i128, by: u128) -> i128
 }
 
 /// The sum, where its size is below the limit.
+#[inline(always)]
 pub fn signed_sum(a: i128, b: i128, limit: u128) -> Option<i128>
     requires { limit ≤ 2 ^ 127 }
     ensures { SomeIff result (nat_abs (a +ℤ b) < limit) (a +ℤ b) }
@@ -85,6 +89,7 @@ pub fn signed_sum(a: i128, b: i128, limit: u128) -> Option<i128>
 }
 
 /// The product with a number that is not negative, where its size is below the limit.
+#[inline(always)]
 pub fn scaled(a: i128, b: u128, limit: u128) -> Option<i128>
     requires factor { b < 2 ^ 127 }
     requires limit { limit ≤ 2 ^ 127 }
@@ -99,6 +104,7 @@ pub fn scaled(a: i128, b: u128, limit: u128) -> Option<i128>
 }
 
 /// The product, where its size is below the limit.
+#[inline(always)]
 pub fn signed_product(a: i128, b: i128, limit: u128) -> Option<i128>
     requires { limit ≤ 2 ^ 127 }
     ensures { SomeIff result (nat_abs (a *ℤ b) < limit) (a *ℤ b) }
@@ -112,6 +118,7 @@ pub fn signed_product(a: i128, b: i128, limit: u128) -> Option<i128>
 }
 
 /// The product of two positive numbers, where it is below the limit.
+#[inline(always)]
 pub fn unsigned_product(a: u128, b: u128, limit: u128) -> Option<u128>
     requires positive { (0 < a) × (0 < b) }
     ensures product { SomeIff result (a * b < limit) (a * b) }
