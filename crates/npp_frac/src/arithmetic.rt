@@ -1,4 +1,5 @@
-//! Operations on pairs, below a limit.
+//! Operations on pairs, below a limit. They are inlined, since to copy their results takes longer than
+//! to find them.
 
 ghost use Rattle.std.specs.Prelude.{◌≡◌, ◌≢◌, ◌<◌, ◌≤◌, ◌^◌, ◌↔◌, nat_abs, is_some, IsSome, IfSome};
 ghost use Rattle.npp_frac.specs.Gcd.{gcd as gcd_of};
