@@ -6,7 +6,7 @@ use Rattle.npp_frac.specs.Rational.{Rational, zero_ℚ, ◌+ℚ◌, ◌*ℚ◌, 
 use Rattle.npp_frac.specs.Ring.{+ℚ-*ℚ, *ℚ_comm, *ℚ_assoc, zero-*ℚ}
 use Rattle.npp_frac.specs.Order.{≤ℚ_refl, ≤ℚ_trans, +ℚ_mono, *ℚ_mono, not-≤ℚ_of_<ℚ}
 use Rattle.npp_frac.specs.Sums.{sum_by, sum_to, sum_to_same, sum_to_mono, sum_to_zero, sum_to-+ℚ, sum_to-*ℚ, unit, sum_to-unit}
-use Rattle.npp_lp.specs.Programs.{Term, LinearProgram, AreTerms, at, row_of, no_row, product_sum, terms_at, AreNotNegative, IsPoint, IsProgramBound, IsInfeasible}
+use Rattle.npp_lp.specs.Programs.{Term, LinearProgram, AreTerms, at, row_of, no_row, product_sum, terms_at, goal_at, AreNotNegative, IsPoint, IsProgramBound, IsInfeasible, IsOptimum}
 use Rattle.npp_lp.specs.Duals.{coefficient, column_sum, right_value, IsDualAnswer, IsFarkasAnswer}
 
 -- the terms at a point, column by column
@@ -63,3 +63,7 @@ pub no_point_of_farkas : (p : LinearProgram) (y : List Rational) → All (λ r. 
 no_point_of_farkas p y rows f x point =
     let none : product_sum p.columns (λ j. zero_ℚ) (at x) ≡ zero_ℚ = sum_to_same p.columns (λ j. zero_ℚ *ℚ at x j) (λ j. zero_ℚ) (λ j l. zero-*ℚ (at x j)) ∙ sum_to_zero p.columns in
     not-≤ℚ_of_<ℚ f.value (rw none at (goals_at_most p (λ j. zero_ℚ) y x rows f.size f.not_negative f.columns point))
+
+-- a point and a dual answer of one value show that it is the optimum
+pub optimum_of_answers : (p : LinearProgram) (x y : List Rational) (v : Rational) → All (λ r. AreTerms p.columns r.terms) p.rows → IsPoint p x → goal_at p x ≡ v → IsDualAnswer p y v → IsOptimum p v
+optimum_of_answers p x y v rows point value d = record { attained = (x, point, value); bound = weak_duality p y v rows d }

@@ -25,7 +25,7 @@ pub record IsDualAnswer (p : LinearProgram) (y : List Rational) (v : Rational) :
   pub value : v ≡ right_value p y
 
 -- a Farkas answer: a multiplier for each row, none below 0, with each column sum at least 0 and the right sides' sum
--- below 0. It proves that there is no point (the lemma of Farkas)
+-- below 0. It proves that there is no point (the easy half of the lemma of Farkas)
 pub record IsFarkasAnswer (p : LinearProgram) (y : List Rational) : Type 0 where
   pub size : length y ≡ length p.rows
   pub not_negative : AreNotNegative y
