@@ -19,7 +19,7 @@ test_first test true x ys = refl
 test_first test false x ys = refl
 
 -- a test of those that pass another
-list_any-filter : {X : Type 0} (p test : X → Bool) (xs : List X) → list_any test (filter p xs) ≡ list_any (λ x. p x && test x) xs
+pub list_any-filter : {X : Type 0} (p test : X → Bool) (xs : List X) → list_any test (filter p xs) ≡ list_any (λ x. p x && test x) xs
 list_any-filter p test [] = refl
 list_any-filter p test (x ∷ xs) =
     test_first test (p x) x (filter p xs) ∙ ap (λ (b : Bool). (p x && test x) || b) (list_any-filter p test xs)

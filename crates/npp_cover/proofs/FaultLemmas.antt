@@ -202,7 +202,7 @@ found_of true true e f = refl
 found_of true false e f = cc
 found_of false d e f = cc
 
-dominated_of : (labels : List Label) (v s cost : ℕ) → is_dominated labels v s cost ≡ true → IsDominated labels v s cost
+pub dominated_of : (labels : List Label) (v s cost : ℕ) → is_dominated labels v s cost ≡ true → IsDominated labels v s cost
 dominated_of labels v s cost e =
     let found = Any-from_list_any (λ (l : Label). nat_eq l.node.0 v && is_no_worse l s cost) labels e in
     let l : Label = found.1 in

@@ -27,7 +27,7 @@ walk_fuel labels linked (suc n) (suc m) i lt lt' in_range =
     (λ lower. walk_fuel labels linked n m (label_at labels i).parent (omega arith) (omega arith) (omega arith))
 
 -- the walk of a label that goes on from another
-walk_of_more : (labels : List Label) (i : ℕ) (a : ArcId) → AreLinked labels → i < length labels → (label_at labels i).last ≡ Some a
+pub walk_of_more : (labels : List Label) (i : ℕ) (a : ArcId) → AreLinked labels → i < length labels → (label_at labels i).last ≡ Some a
     → ((label_at labels i).parent < i) × (walk_of labels i ≡ walk_of labels (label_at labels i).parent ++ a ∷ [])
 walk_of_more labels i a linked in_range is =
     let lower : (label_at labels i).parent < i = subst (λ (o : Option ArcId). IfSome o (λ _. (label_at labels i).parent < i)) is (linked i in_range) in (
@@ -37,7 +37,7 @@ walk_of_more labels i a linked in_range is =
     )
 
 -- and that of the start
-walk_of_start : (labels : List Label) (i : ℕ) → (label_at labels i).last ≡ None → walk_of labels i ≡ []
+pub walk_of_start : (labels : List Label) (i : ℕ) → (label_at labels i).last ≡ None → walk_of labels i ≡ []
 walk_of_start labels i is = ap (λ (o : Option ArcId). option_map_or (λ x. walk_back labels i (label_at labels i).parent ++ x ∷ []) o []) is
 
 -- one arc further back

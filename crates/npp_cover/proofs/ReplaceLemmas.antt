@@ -27,10 +27,10 @@ pub record Reaches (arcs : List NetArc) (labels : List Label) (v : ℕ) (from : 
   pub cheaper : (label_at labels j).cost ≤ from.cost + walk_cost arcs rest
   pub tolls : (b : ℕ) → bit_at (label_at labels j).tolls b ≤ bit_at from.tolls b + walk_tolls arcs rest b
 
-one_or_none : (x y : ℕ) → x < 2 → (x ≡ 1 → y ≡ 1) → x ≤ y
+pub one_or_none : (x y : ℕ) → x < 2 → (x ≡ 1 → y ≡ 1) → x ≤ y
 one_or_none x y lt h = grind arith
 
-walk_cost-cons : (arcs : List NetArc) (a : ArcId) (rest : List ArcId) → walk_cost arcs (a ∷ rest) ≡ (arc_at arcs a).cost + walk_cost arcs rest
+pub walk_cost-cons : (arcs : List NetArc) (a : ArcId) (rest : List ArcId) → walk_cost arcs (a ∷ rest) ≡ (arc_at arcs a).cost + walk_cost arcs rest
 walk_cost-cons arcs a rest = sum_by-cons (λ x. (arc_at arcs x).cost) a rest
 
 pub all_usable : (arcs : List NetArc) (walk : List ArcId) → IsUsableWalk true arcs walk

@@ -32,7 +32,7 @@ start_walk arcs origin l is = record {
   tolls = λ b. sym (ap (λ (x : Label). bit_at x.tolls b) is ∙ bit_at-zero b);
 }
 
-walk_push : (arcs : List NetArc) (u v : ℕ) (walk : List ArcId) (a : ArcId) → IsWalk arcs u v walk → a.0 < length arcs → (arc_at arcs a).tail.0 ≡ v
+pub walk_push : (arcs : List NetArc) (u v : ℕ) (walk : List ArcId) (a : ArcId) → IsWalk arcs u v walk → a.0 < length arcs → (arc_at arcs a).tail.0 ≡ v
     → IsWalk arcs u (arc_at arcs a).head.0 (walk ++ a ∷ [])
 walk_push arcs u v [] a path lt tail = (lt, tail ∙ sym path, refl)
 walk_push arcs u v (b ∷ walk) a path lt tail = (path.0, path.1, walk_push arcs (arc_at arcs b).head.0 v walk a path.2 lt tail)
