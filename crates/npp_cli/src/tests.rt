@@ -9,6 +9,15 @@ use std::test::Fail;
 
 const TWO_ROADS: &str = "npp 1\nnode a\nnode b\nfree a b 10\ntoll a b 2\npair a b 5\n";
 
+const TWO_ROADS_WITH_BLANKS: &str =
+    "# two roads\r\nnpp 1\r\n\r\nnode a\r\n node\tb\r\nfree a b 10\r\ntoll a b 2\r\n\r\npair a b 5";
+
+const THREE_PAIRS: &str =
+    "npp 1\nnode a\nnode b\nnode p\nnode q\nnode r\ntoll a b 2\nfree p a 0\nfree p b 10\nfree q a 0\nfree q b 8\nfree r a 0\nfree r b 5\npair p b 1\npair q b 1\npair r b 3\n";
+
+const USAGE: &str =
+    "usage: npp solve FILE [--budget N] [--cuts N] [--numbers W] [--brief]\n       npp check FILE CERTIFICATE\n       npp bounds FILE\n       npp paths FILE\n       npp eval FILE TOLLS\n       npp gen NUMBER\n       npp demo NUMBER [--budget N] [--cuts N] [--numbers W]\n";
+
 // Gives one byte a call of its only file, which every name finds, and fails from the call after `most` bytes on.
 #[derive(Drop)]
 struct Slow {
@@ -85,61 +94,108 @@ fn expect(
 
 #[test]
 fn reports(rt: HostRuntime) -> Result<(), Fail> {
-    let alloc = rt.alloc();
     let report =
         "npp-certificate 1\nstatus budget\nwidth 64\nlower 0\nupper 40\nopened 0\ntoll 0 0\npath 0 2 0 1\n";
-    expect(&rt, alloc, "solve", "file", TWO_ROADS.as_bytes(), 1, report)?;
-    let free = b"npp 1\nnode a\nnode b\nfree a b 4\npair a b 1\n";
-    let report =
+    let optimal =
         "npp-certificate 1\nstatus optimal\nwidth 64\nlower 0\nupper 0\nopened 0\npath 0 4 0 0\n";
-    expect(&rt, alloc, "solve", "file", free, 0, report)?;
-    expect(
-        &rt,
-        alloc,
-        "bounds",
-        "file",
-        TWO_ROADS.as_bytes(),
-        0,
-        "span 0 10 2\nbasic 40\n",
-    )
+    let rows = [
+        ("solve", TWO_ROADS, 1, report),
+        ("solve", TWO_ROADS_WITH_BLANKS, 1, report),
+        (
+            "solve",
+            "npp 1\nnode a\nnode b\nfree a b 4\npair a b 1\n",
+            0,
+            optimal,
+        ),
+        ("bounds", TWO_ROADS, 0, "span 0 10 2\nbasic 40\n"),
+        (
+            "bounds",
+            THREE_PAIRS,
+            0,
+            "span 0 10 2\nspan 1 8 2\nspan 2 5 2\nbasic 23\n",
+        ),
+    ];
+    for (job, text, status, written) in rows {
+        expect(
+            &rt,
+            rt.alloc(),
+            job,
+            "file",
+            text.as_bytes(),
+            status,
+            written,
+        )?;
+    }
+    Ok(())
 }
 
 #[test]
 fn refusals(rt: HostRuntime) -> Result<(), Fail> {
-    let alloc = rt.alloc();
-    let tolls_only = b"npp 1\nnode a\nnode b\ntoll a b 1\npair a b 1\n";
+    let tolls_only = "npp 1\nnode a\nnode b\ntoll a b 1\npair a b 1\n";
+    let repeated = "npp 1\nnode a\nnode a\n";
+    let rows = [
+        ("solve", "file", tolls_only, 10, "refused no-free-path 0\n"),
+        ("bounds", "file", tolls_only, 10, "refused no-free-path 0\n"),
+        ("solve", "file", "", 3, "refused instance line 1 Header\n"),
+        (
+            "solve",
+            "file",
+            repeated,
+            3,
+            "refused instance line 3 RepeatedNode\n",
+        ),
+        ("solve", "none", "", 4, "missing none\n"),
+        ("solve", "--file", "", 2, USAGE),
+        ("price", "file", "", 2, USAGE),
+        ("gen", "x", "", 2, USAGE),
+        ("gen", "1000000", "", 2, USAGE),
+    ];
+    for (job, first, text, status, written) in rows {
+        expect(
+            &rt,
+            rt.alloc(),
+            job,
+            first,
+            text.as_bytes(),
+            status,
+            written,
+        )?;
+    }
+    let long = vec![in rt.alloc(); b'#'; 4_194_305]?;
     expect(
         &rt,
-        alloc,
-        "solve",
-        "file",
-        tolls_only,
-        10,
-        "refused no-free-path 0\n",
-    )?;
-    expect(
-        &rt,
-        alloc,
-        "solve",
-        "file",
-        b"npp 1\nnode a\nnode a\n",
-        3,
-        "refused instance line 3 RepeatedNode\n",
-    )?;
-    expect(&rt, alloc, "solve", "none", b"", 4, "missing none\n")?;
-    let usage =
-        "usage: npp solve FILE [--budget N] [--cuts N] [--numbers W] [--brief]\n       npp check FILE CERTIFICATE\n       npp bounds FILE\n       npp paths FILE\n       npp eval FILE TOLLS\n       npp gen NUMBER\n       npp demo NUMBER [--budget N] [--cuts N] [--numbers W]\n";
-    expect(&rt, alloc, "gen", "1000000", b"", 2, usage)?;
-    let long = vec![in alloc; b'#'; 4_194_305]?;
-    expect(
-        &rt,
-        alloc,
+        rt.alloc(),
         "solve",
         "file",
         &long,
         12,
         "refused too-long file\n",
     )
+}
+
+#[test]
+fn a_generated_instance(rt: HostRuntime) -> Result<(), Fail> {
+    let alloc = rt.alloc();
+    let mut shelf = SureShelf::new(Vec::new(alloc));
+    let mut out = SureSink::new(alloc);
+    let words = words(alloc, "gen", "7")?;
+    assert_eq!(rt; run(alloc, &words, &mut shelf, &mut out), 0);
+    let text = std::str::from_utf8(out.written())?;
+    assert_eq!(rt; text.lines().count(), 83);
+    let rows = [
+        (0, "npp 1"),
+        (27, "toll m0 m1 4"),
+        (28, "toll m1 m2 4"),
+        (29, "toll m2 m3 3"),
+        (39, "free t0 t1 12"),
+        (40, "free t1 t0 12"),
+        (73, "pair t4 t10 3"),
+        (74, "pair t1 t4 16"),
+    ];
+    for (index, line) in rows {
+        assert_eq!(rt; text.lines().nth(index), Some(line));
+    }
+    Ok(())
 }
 
 #[test]
