@@ -19,11 +19,9 @@ use Rattle.npp_reader.specs.Reading.{reading_from, reading_of, at_end, at_line, 
 use Rattle.npp_reader.proofs.ReadLemmas.{reading_begins}
 use Rattle.npp_reader.specs.Grammar.{Declared, nothing, after_line, and_then, link_of, link_faults, node_faults, arc_faults, pair_faults, after_node, after_arc, after_pair, after_word, after_fields, after_header}
 use Rattle.npp_reader.specs.Declaring.{name_declared, arc_declared, pair_declared, AreDeclared, Declares}
+use Rattle.npp_reader.proofs.FieldLemmas.{both}
+use Rattle.npp_reader.proofs.GrammarLemmas.{pick, linked}
 use Rattle.npp_reader.proofs.WithinLemmas.{judged_ok, not_false}
-
-both : (a b : Bool) → (a && b) ≡ true → (a ≡ true) × (b ≡ true)
-both true b e = (refl, e)
-both false b e = absurd cc
 
 -- the place of a name that is declared stays where more follow
 place_step : (b any : Bool) (n m : ℕ) → (b || any) ≡ true → (any ≡ true → n ≡ m) → cond (not b) (1 + n) 0 ≡ cond (not b) (1 + m) 0
@@ -164,30 +162,20 @@ module _ (above next : Declared) where
       })
   node_adds word (a ∷ b ∷ more) is e = absurd cc
 
-  linked : (fields : List (List ℕ)) (after : Link → Result Declared LineKind) (P : Type 0) → and_then (link_of above.names fields) after ≡ Ok next
-      → ((link : Link) → IsLink above.names fields link → after link ≡ Ok next → P) → P
-  linked fields after P e each = step (link_of above.names fields) refl e where
-    step : (r : Result Link LineKind) → link_of above.names fields ≡ r → and_then r after ≡ Ok next → P
-    step (Ok link) is e = each link (link_parts above.names fields link is) e
-    step (Err kind) is e = absurd cc
-
-  pick : (b : Bool) (x y : Result Declared LineKind) (P : Type 0) → cond b x y ≡ Ok next → (b ≡ true → x ≡ Ok next → P) → (b ≡ false → y ≡ Ok next → P) → P
-  pick true x y P e f g = f refl e
-  pick false x y P e f g = g refl e
-
   word_adds : (word : List ℕ) (fields : List (List ℕ)) → after_word above word fields ≡ Ok next → Adds above next (word ∷ fields)
   unfolding after_word
   word_adds word fields e =
       let P = Adds above next (word ∷ fields) in
-      pick (bytes_eq word (codes "node")) (after_node above fields) _ P e (λ is f. node_adds word fields is f) (λ node e1.
-      pick (bytes_eq word (codes "free")) (and_then (link_of above.names fields) (after_arc above false)) _ P e1
-      (λ is f. linked fields (after_arc above false) P f (λ link parts g.
-      arc_adds word fields false link (rw is) (word_test word (codes "free") (codes "toll") is) (word_test word (codes "free") (codes "pair") is) parts g)) (λ free e2.
-      pick (bytes_eq word (codes "toll")) (and_then (link_of above.names fields) (after_arc above true)) _ P e2
-      (λ is f. linked fields (after_arc above true) P f (λ link parts g.
-      arc_adds word fields true link (rw (free, is)) is (word_test word (codes "toll") (codes "pair") is) parts g)) (λ toll e3.
-      pick (bytes_eq word (codes "pair")) (and_then (link_of above.names fields) (after_pair above)) _ P e3
-      (λ is f. linked fields (after_pair above) P f (λ link parts g. pair_adds word fields link free toll is parts g)) (λ pair e4. absurd cc))))
+      let parts = link_parts above.names fields in
+      pick (bytes_eq word (codes "node")) (after_node above fields) _ (Ok next) P e (λ is f. node_adds word fields is f) (λ node e1.
+      pick (bytes_eq word (codes "free")) (and_then (link_of above.names fields) (after_arc above false)) _ (Ok next) P e1
+      (λ is f. linked above.names next fields (after_arc above false) P f (λ link l g.
+      arc_adds word fields false link (rw is) (word_test word (codes "free") (codes "toll") is) (word_test word (codes "free") (codes "pair") is) (parts link l) g)) (λ free e2.
+      pick (bytes_eq word (codes "toll")) (and_then (link_of above.names fields) (after_arc above true)) _ (Ok next) P e2
+      (λ is f. linked above.names next fields (after_arc above true) P f (λ link l g.
+      arc_adds word fields true link (rw (free, is)) is (word_test word (codes "toll") (codes "pair") is) (parts link l) g)) (λ toll e3.
+      pick (bytes_eq word (codes "pair")) (and_then (link_of above.names fields) (after_pair above)) _ (Ok next) P e3
+      (λ is f. linked above.names next fields (after_pair above) P f (λ link l g. pair_adds word fields link free toll is (parts link l) g)) (λ pair e4. absurd cc))))
 
   nothing_said : (word : List ℕ) (fields : List (List ℕ)) → next.names ≡ above.names → next.arcs ≡ above.arcs → next.commodities ≡ above.commodities
       → bytes_eq word (codes "node") ≡ false → bytes_eq word (codes "free") ≡ false → bytes_eq word (codes "toll") ≡ false → bytes_eq word (codes "pair") ≡ false
@@ -200,7 +188,7 @@ module _ (above next : Declared) where
   header_adds [] e = absurd cc
   header_adds (word ∷ []) e = absurd cc
   header_adds (word ∷ number ∷ []) e =
-      pick (bytes_eq word (codes "npp") && bytes_eq number (codes "1")) (Ok (record above { header = true })) _ (Adds above next (word ∷ number ∷ [])) e (λ is f.
+      pick (bytes_eq word (codes "npp") && bytes_eq number (codes "1")) (Ok (record above { header = true })) _ (Ok next) (Adds above next (word ∷ number ∷ [])) e (λ is f.
       let npp = both (bytes_eq word (codes "npp")) (bytes_eq number (codes "1")) is in
       let same : record above { header = true } ≡ next = cc in
       subst (λ (d : Declared). Adds above d (word ∷ number ∷ [])) same
@@ -215,14 +203,14 @@ module _ (above next : Declared) where
       let same : above ≡ next = cc in
       adds_nothing above next [] (ap (λ (d : Declared). d.names) (sym same)) (ap (λ (d : Declared). d.arcs) (sym same)) (ap (λ (d : Declared). d.commodities) (sym same)) refl (λ names. refl) (λ names. refl)
   fields_add (word ∷ fields) e =
-      pick (eqb (slice_index word 0) 35) (Ok above) _ (Adds above next (word ∷ fields)) e
+      pick (eqb (slice_index word 0) 35) (Ok above) _ (Ok next) (Adds above next (word ∷ fields)) e
       (λ is f.
       let same : above ≡ next = cc in
       let mark : slice_index word 0 ≡ 35 = eqb-true (slice_index word 0) 35 is in
       nothing_said word fields (ap (λ (d : Declared). d.names) (sym same)) (ap (λ (d : Declared). d.arcs) (sym same)) (ap (λ (d : Declared). d.commodities) (sym same))
       (other_word word (codes "node") (omega arith)) (other_word word (codes "free") (omega arith)) (other_word word (codes "toll") (omega arith)) (other_word word (codes "pair") (omega arith)))
       (λ not f.
-      pick above.header (after_word above word fields) (after_header above (word ∷ fields)) (Adds above next (word ∷ fields)) f
+      pick above.header (after_word above word fields) (after_header above (word ∷ fields)) (Ok next) (Adds above next (word ∷ fields)) f
       (λ below g. word_adds word fields g) (λ first g. header_adds (word ∷ fields) g))
 
 -- what is declared is what these lines declare by themselves
@@ -231,10 +219,10 @@ pub record IsSumOf (front : List (List (List ℕ))) (above : Declared) : Type 0 
   pub arcs : (more : List (List ℕ)) → above.arcs ≡ filter_map (arc_declared (above.names ++ more)) front
   pub commodities : (more : List (List ℕ)) → above.commodities ≡ filter_map (pair_declared (above.names ++ more)) front
 
-nothing_is_sum : IsSumOf [] nothing
+pub nothing_is_sum : IsSumOf [] nothing
 nothing_is_sum = record { names = refl; arcs = λ more. refl; commodities = λ more. refl }
 
-sum_step : (front : List (List (List ℕ))) (above next : Declared) (fields : List (List ℕ)) → IsSumOf front above → Adds above next fields → IsSumOf (front ++ fields ∷ []) next
+pub sum_step : (front : List (List (List ℕ))) (above next : Declared) (fields : List (List ℕ)) → IsSumOf front above → Adds above next fields → IsSumOf (front ++ fields ∷ []) next
 sum_step front above next fields is adds = record {
   names = adds.names ∙ (ap (λ (ns : List (List ℕ)). ns ++ cons_option (name_declared fields) []) is.names ∙ sym (filter_map-append name_declared front (fields ∷ [])));
   arcs = λ more.
@@ -261,7 +249,7 @@ sum_ends front above document is e =
       commodities = is.commodities [] ∙ ap (λ (ns : List (List ℕ)). filter_map (pair_declared ns) front) (append-nil above.names);
     })
 
-line_fields : (above next : Declared) (line : List ℕ) → after_line above line ≡ Ok next → after_fields above (fields_of line) ≡ Ok next
+pub line_fields : (above next : Declared) (line : List ℕ) → after_line above line ≡ Ok next → after_fields above (fields_of line) ≡ Ok next
 unfolding after_line
 line_fields above next line e = step (is_utf8 line) e where
   step : (b : Bool) → cond b (after_fields above (fields_of line)) (Err Utf8) ≡ Ok next → after_fields above (fields_of line) ≡ Ok next
@@ -272,7 +260,7 @@ end_taken : {X : Type 0} (number : ℕ) (r : Result X LineKind) (x : X) → at_l
 end_taken number (Ok y) x e = let same : y ≡ x = cc in ap (λ z. Ok z) same
 end_taken number (Err kind) x e = absurd cc
 
-line_taken : (number : ℕ) (r : Result Declared LineKind) (rest : Declared → Result Document ReadRefusal) (document : Document) → at_line number r rest ≡ Ok document
+pub line_taken : (number : ℕ) (r : Result Declared LineKind) (rest : Declared → Result Document ReadRefusal) (document : Document) → at_line number r rest ≡ Ok document
     → (next : Declared) × (r ≡ Ok next) × (rest next ≡ Ok document)
 line_taken number (Ok next) rest document e = (next, refl, e)
 line_taken number (Err kind) rest document e = absurd cc

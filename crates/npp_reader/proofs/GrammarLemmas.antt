@@ -1,10 +1,12 @@
 -- What a line says, by its fields.
-use Rattle.std.proofs.Common.{◌≡◌, ◌≢◌, ℕ, true, false, List, [], ◌∷◌, slice_index, Ok, Err, refl, ◌∙◌, eq-eqb}
+use Rattle.std.proofs.Common.{◌≡◌, ◌≢◌, ℕ, true, false, List, [], ◌∷◌, slice_index, Ok, Err, refl, ◌∙◌, eq-eqb, Bool, cond, Result}
 use Rattle.std.specs.Str.{is_utf8}
 use Rattle.std.proofs.lemmas.Bool.{ne_eqb}
+use Rattle.npp_reader.specs.declared.kind.LineKind.{LineKind}
 use Rattle.npp_reader.specs.declared.kind.LineKind.TheVariants.{Utf8}
+use Rattle.npp_reader.specs.declared.link.Link.{Link}
 use Rattle.npp_reader.specs.Lines.{fields_of}
-use Rattle.npp_reader.specs.Grammar.{Declared, after_line, after_fields, after_word, after_header}
+use Rattle.npp_reader.specs.Grammar.{Declared, after_line, after_fields, after_word, after_header, and_then, link_of}
 
 pub line_bad : (above : Declared) (line : List ℕ) → is_utf8 line ≡ false → after_line above line ≡ Err Utf8
 unfolding after_line
@@ -47,3 +49,16 @@ module _ (above : Declared) (line word : List ℕ) (fields : List (List ℕ)) (g
   -- the line of the header
   pub line_header : slice_index word 0 ≢ 35 → above.header ≡ false → after_line above line ≡ after_header above (word ∷ fields)
   line_header h header = line_good above line (word ∷ fields) good e ∙ header_said above word fields h header
+
+-- which of two answers was given
+pub pick : {X : Type 0} (b : Bool) (x y z : X) (P : Type 0) → cond b x y ≡ z → (b ≡ true → x ≡ z → P) → (b ≡ false → y ≡ z → P) → P
+pick true x y z P e f g = f refl e
+pick false x y z P e f g = g refl e
+
+-- the link of a line that has no fault
+pub linked : (names : List (List ℕ)) (next : Declared) (fields : List (List ℕ)) (after : Link → Result Declared LineKind) (P : Type 0) → and_then (link_of names fields) after ≡ Ok next
+    → ((link : Link) → link_of names fields ≡ Ok link → after link ≡ Ok next → P) → P
+linked names next fields after P e each = step (link_of names fields) refl e where
+  step : (r : Result Link LineKind) → link_of names fields ≡ r → and_then r after ≡ Ok next → P
+  step (Ok link) is e = each link is e
+  step (Err kind) is e = absurd cc

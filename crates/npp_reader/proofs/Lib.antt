@@ -8,3 +8,4 @@ pub mod RefusalLemmas
 pub mod FieldLines
 pub mod RoundTrip
 pub mod DeclaredLemmas
+pub mod FaultLemmas

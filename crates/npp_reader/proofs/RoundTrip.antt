@@ -24,6 +24,7 @@ use Rattle.npp_reader.specs.Names.{AreNames, is_declared}
 use Rattle.npp_reader.specs.Grammar.{Declared, nothing, after_fields, after_header, after_word, after_node, after_arc, after_pair, link_of}
 use Rattle.npp_reader.specs.Reading.{reading_of, at_end}
 use Rattle.npp_reader.specs.Canonical.{canonical_text, canonical_lines, line_of, header_fields, node_fields, arc_fields, pair_fields, name_of}
+use Rattle.npp_reader.proofs.FieldLemmas.{both}
 use Rattle.npp_reader.proofs.FieldLines.{IsField, AreFields, is_visible, field_test, lines_written, Declares, declares_reads, declares-append}
 use Rattle.npp_reader.proofs.NameLemmas.{none_before}
 use Rattle.npp_reader.proofs.ReadLemmas.{reading_begins}
@@ -35,10 +36,6 @@ below names arcs commodities = record { header = true; names = names; arcs = arc
 -- a name is a field
 name_byte_visible : (b : ℕ) → is_name_byte b ≡ true → is_visible b ≡ true
 name_byte_visible b e = grind (arith, nat_tests)
-
-both : (a b : Bool) → (a && b) ≡ true → (a ≡ true) × (b ≡ true)
-both true b e = (refl, e)
-both false b e = absurd cc
 
 name_field : (name : List ℕ) → is_name name ≡ true → IsField name
 unfolding is_name

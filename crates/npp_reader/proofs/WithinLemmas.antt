@@ -1,5 +1,5 @@
 -- What a line declares keeps the limits.
-use Rattle.std.proofs.Common.{◌≡◌, ℕ, ◌+◌, ◌<◌, ◌≤◌, Bool, true, false, not, cond, List, [], ◌∷◌, ◌++◌, length, Result, Ok, Err, refl, subst, arith, nat_le, ◌&&◌, ◌||◌, codes, slice_index, ◌==◌}
+use Rattle.std.proofs.Common.{◌≡◌, ℕ, ◌+◌, ◌<◌, ◌≤◌, Bool, true, false, not, cond, List, [], ◌∷◌, ◌++◌, length, Result, Ok, Err, refl, subst, arith, nat_le, ◌&&◌, ◌||◌, codes, slice_index, eqb}
 use Rattle.std.specs.List.{list_any, position_or_len}
 use Rattle.std.specs.Str.{bytes_eq, is_utf8}
 use Rattle.std.specs.Str.Parse.{digits_value}
@@ -17,6 +17,7 @@ use Rattle.npp_reader.specs.Lines.{fields_of}
 use Rattle.npp_reader.specs.Names.{node_of}
 use Rattle.npp_reader.specs.Grammar.{Declared, judged, and_then, link_of, node_faults, link_faults, arc_faults, pair_faults, after_node, after_arc, after_pair, after_word, after_fields, after_header, after_line}
 use Rattle.npp_reader.specs.Taking.{IsWithin}
+use Rattle.npp_reader.proofs.GrammarLemmas.{pick, linked}
 
 -- no row's test holds
 abbrev pub AllFalse : List (Bool × LineKind) → Type 0
@@ -138,31 +139,26 @@ module _ (above next : Declared) (within : IsWithin above) where
     step false e = absurd cc
   header_within (a ∷ b ∷ c ∷ more) e = absurd cc
 
-  pick : (b : Bool) (x y : Result Declared LineKind) → cond b x y ≡ Ok next → (x ≡ Ok next → IsWithin next) → (y ≡ Ok next → IsWithin next) → IsWithin next
-  pick true x y e f g = f e
-  pick false x y e f g = g e
-
-  linked : (fields : List (List ℕ)) (after : Link → Result Declared LineKind) → and_then (link_of above.names fields) after ≡ Ok next
-      → ((link : Link) → IsLinkWithin (length above.names) link → after link ≡ Ok next → IsWithin next) → IsWithin next
-  linked fields after e each = step (link_of above.names fields) refl e where
-    step : (r : Result Link LineKind) → link_of above.names fields ≡ r → and_then r after ≡ Ok next → IsWithin next
-    step (Ok link) is e = each link (link_within above.names fields link is) e
-    step (Err kind) is e = absurd cc
-
   word_within : (word : List ℕ) (fields : List (List ℕ)) → after_word above word fields ≡ Ok next → IsWithin next
   unfolding after_word
   word_within word fields e =
-      pick (bytes_eq word (codes "node")) (after_node above fields) _ e (node_within fields) (λ e1.
-      pick (bytes_eq word (codes "free")) (and_then (link_of above.names fields) (after_arc above false)) _ e1 (λ f. linked fields (after_arc above false) f (arc_within false)) (λ e2.
-      pick (bytes_eq word (codes "toll")) (and_then (link_of above.names fields) (after_arc above true)) _ e2 (λ f. linked fields (after_arc above true) f (arc_within true)) (λ e3.
-      pick (bytes_eq word (codes "pair")) (and_then (link_of above.names fields) (after_pair above)) _ e3 (λ f. linked fields (after_pair above) f pair_within) (λ e4. absurd cc))))
+      let P = IsWithin next in
+      let near = link_within above.names fields in
+      pick (bytes_eq word (codes "node")) (after_node above fields) _ (Ok next) P e (λ is f. node_within fields f) (λ not1 e1.
+      pick (bytes_eq word (codes "free")) (and_then (link_of above.names fields) (after_arc above false)) _ (Ok next) P e1
+      (λ is f. linked above.names next fields (after_arc above false) P f (λ link l g. arc_within false link (near link l) g)) (λ not2 e2.
+      pick (bytes_eq word (codes "toll")) (and_then (link_of above.names fields) (after_arc above true)) _ (Ok next) P e2
+      (λ is f. linked above.names next fields (after_arc above true) P f (λ link l g. arc_within true link (near link l) g)) (λ not3 e3.
+      pick (bytes_eq word (codes "pair")) (and_then (link_of above.names fields) (after_pair above)) _ (Ok next) P e3
+      (λ is f. linked above.names next fields (after_pair above) P f (λ link l g. pair_within link (near link l) g)) (λ not4 e4. absurd cc))))
 
   fields_within : (fields : List (List ℕ)) → after_fields above fields ≡ Ok next → IsWithin next
   unfolding after_fields
   fields_within [] e = let same : above ≡ next = cc in subst IsWithin same within
   fields_within (word ∷ fields) e =
-      pick (slice_index word 0 == 35) (Ok above) _ e (λ f. let same : above ≡ next = cc in subst IsWithin same within) (λ e1.
-      pick above.header (after_word above word fields) (after_header above (word ∷ fields)) e1 (word_within word fields) (header_within (word ∷ fields)))
+      pick (eqb (slice_index word 0) 35) (Ok above) _ (Ok next) (IsWithin next) e (λ is f. let same : above ≡ next = cc in subst IsWithin same within) (λ not f.
+      pick above.header (after_word above word fields) (after_header above (word ∷ fields)) (Ok next) (IsWithin next) f (λ is g. word_within word fields g)
+      (λ first g. header_within (word ∷ fields) g))
 
   pub line_within : (line : List ℕ) → after_line above line ≡ Ok next → IsWithin next
   unfolding after_line

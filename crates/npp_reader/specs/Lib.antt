@@ -6,4 +6,5 @@ pub mod Grammar
 pub mod Reading
 pub mod Canonical
 pub mod Declaring
+pub mod Faults
 pub mod Taking

@@ -1,8 +1,9 @@
 //! Reading a text.
 
-ghost use Rattle.std.specs.Prelude.{◌≡◌, ◌⊎◌, Err, length, IfOk};
+ghost use Rattle.std.specs.Prelude.{◌≡◌, ◌⊎◌, Err, length, IfOk, IfErr, OnOk};
 ghost use Rattle.npp_net.specs.Network.{IsNetwork};
 ghost use Rattle.npp_reader.specs.Declaring.{Declares};
+ghost use Rattle.npp_reader.specs.Faults.{IsAccepted, IsRefused};
 ghost use Rattle.npp_reader.specs.Names.{AreNames};
 ghost use Rattle.npp_reader.specs.Reading.{reading_of};
 
@@ -20,6 +21,8 @@ use std::alloc::Global;
 /// `pair ORIGIN DESTINATION DEMAND`, in any order that declares each name before it is used.
 pub fn read(alloc: Global, bytes: &[u8]) -> Result<Document, ReadRefusal>
     ensures answer { (result ≡ Err ReadRefusal.Memory) ⊎ (result ≡ reading_of bytes.now) }
+    ensures accepted { OnOk result (IsAccepted bytes.now) }
+    ensures refused { IfErr result (IsRefused bytes.now) }
     ensures declared { IfOk result (Declares bytes.now) }
     ensures limits { IfOk result (λ document. IsNetwork document.instance) }
     ensures names { IfOk result (λ document. AreNames document.names) }
