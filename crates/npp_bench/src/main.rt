@@ -1,14 +1,17 @@
-// Times `a - b * c` over exact fractions.
-//
-// Each line of the input names a width, a length of numerators and denominators in bits, 0 for
-// whole numbers, and a number of fractions. The program takes all a, b and c of that many
-// fractions, and prints a sum of the numbers of the answers, which is the same on every run.
+//! Times exact fractions and the checks of programs. What it prints is the same on every run.
+//!
+//! A line `WIDTH BITS COUNT` of the input takes all `a - b * c` over so many fractions, with numerators and denominators
+//! of a length in bits, 0 for whole numbers, and prints a sum of the numbers of the answers. A line
+//! `dual ROWS COLUMNS NONZERO` checks a dual answer with so many multipliers above 0, and prints its value.
 #![tactic(auto)]
 
+mod dual;
 mod pass;
 
+use dual::checked;
 use npp_frac::{Frac32, Frac64, Frac128};
 use pass::pass;
+use std::alloc::Global;
 use std::io;
 
 /// The three numbers of a line.
@@ -23,6 +26,10 @@ fn numbers(line: &str) -> Option<(u32, u32, u32)> {
 fn main(rt: HostRuntime) -> io::Result<()> {
     for line in rt.lines(rt.alloc()) {
         let line = line?;
+        if let Some(sizes) = line.strip_prefix("dual ") {
+            print_dual(&rt, rt.alloc(), sizes)?;
+            continue;
+        }
         let Some((width, bits, count)) = numbers(line.as_str()) else {
             println!(rt; "width, bits and count are wanted")?;
             continue;
@@ -35,4 +42,13 @@ fn main(rt: HostRuntime) -> io::Result<()> {
         println!(rt; "width {width} bits {bits} count {count}: {sum}")?;
     }
     Ok(())
+}
+
+/// Checks a dual answer of the sizes of a line.
+fn print_dual(rt: &impl Print, alloc: Global, sizes: &str) -> io::Result<()> {
+    let Some((rows, columns, nonzero)) = numbers(sizes) else {
+        return println!(rt; "rows, columns and nonzero multipliers are wanted");
+    };
+    let value = checked(alloc, rows, columns, nonzero)?;
+    println!(rt; "rows {rows} columns {columns} nonzero {nonzero}: {value}")
 }

@@ -1,4 +1,4 @@
-// One pass over all triples of some fractions.
+//! One pass over all triples of some fractions.
 
 use npp_frac::Exact;
 use std::alloc::{AllocError, Global};

@@ -44,16 +44,16 @@ fn works_at_each_width(rt: HostRuntime) {
     assert_eq!(rt; worked::<Frac128>(), want);
 }
 
-/// The operation at 32 bits and at 128, where the operands are 1 over the denominators.
-fn unit_fractions(op: Op, left: i64, right: i64) -> Option<[Option<(i128, i128)>; 2]>
+/// The operation on 1 over a denominator and on a number over a denominator, at 32 bits and at 128.
+fn at_two_widths(op: Op, left: i64, right: (i64, i64)) -> Option<[Option<(i128, i128)>; 2]>
     requires op { op ≢ Op.Div }
     requires left { (pos 0 <ℤ left) × (left <ℤ pos 100000) }
-    requires right { (pos 0 <ℤ right) × (right <ℤ pos 100000) }
+    requires number { (pos 0 <ℤ right.0) × (right.0 <ℤ pos 100000) }
+    requires right { (pos 0 <ℤ right.1) × (right.1 <ℤ pos 100000) }
 {
-    let one = Frac32::of_whole(1);
     let (Ok(left), Ok(right)) = (
-        one.div(Frac32::of_whole(left)),
-        one.div(Frac32::of_whole(right)),
+        Frac32::of_whole(1).div(Frac32::of_whole(left)),
+        Frac32::of_whole(right.0).div(Frac32::of_whole(right.1)),
     ) else {
         return None;
     };
@@ -64,11 +64,11 @@ fn unit_fractions(op: Op, left: i64, right: i64) -> Option<[Option<(i128, i128)>
 #[test]
 fn refuses_by_the_rule(rt: HostRuntime) {
     assert_eq!(rt;
-        unit_fractions(Op::Mul, 2, 3),
-        Some([Some((1, 6)), Some((1, 6))])
+        at_two_widths(Op::Mul, 2, (2, 3)),
+        Some([Some((1, 3)), Some((1, 3))])
     );
     assert_eq!(rt;
-        unit_fractions(Op::Add, 65536, 65535),
+        at_two_widths(Op::Add, 65536, (1, 65535)),
         Some([None, Some((131_071, 4_294_901_760))])
     );
     let (most, one) = (Frac32::of_whole(2_147_483_647), Frac32::of_whole(1));
