@@ -1,0 +1,80 @@
+//! The best-first search for useful labels.
+
+ghost use Rattle.std.specs.Prelude.{◌≡◌, ◌⊎◌, ◌<◌, length, MatchResult, true};
+ghost use Rattle.npp_net.specs.Network.{IsNetwork, IsCommodity};
+ghost use Rattle.npp_net.specs.Distance.{IsSpan};
+ghost use Rattle.npp_short.specs.Potentials.{AreDistances};
+ghost use Rattle.npp_cover.specs.Labels.{start_label};
+ghost use Rattle.npp_labels.specs.declared.refusal.LabelRefusal.{LabelRefusal};
+ghost use Rattle.npp_labels.specs.Search.{AreFound};
+ghost use Rattle.npp_labels.specs.Useful.{HasTooMany};
+
+use crate::family::Family;
+use crate::queue::Queue;
+use crate::refusal::LabelRefusal;
+use crate::steps::{add_extensions, take_label};
+use npp_cover::{Label, can_win};
+use npp_net::{Commodity, Instance, NodeId, Span, TollSet};
+use npp_short::Potentials;
+use std::alloc::Global;
+
+/// The most useful labels of a commodity.
+const MAX_LABELS: usize = 65_536;
+
+/// The useful labels of a commodity in the order in which the search takes them.
+///
+/// A label is taken where no label that was taken before dominates it. Since those that could dominate it come before it
+/// in the order of the queue, it is useful.
+pub fn search(
+    alloc: Global,
+    instance: &Instance,
+    potentials: &Potentials,
+    span: Span,
+    pair: Commodity,
+) -> Result<Vec<Label>, LabelRefusal>
+    requires network { IsNetwork instance.now }
+    requires pair { IsCommodity instance.now.nodes pair }
+    requires span { IsSpan instance.now.arcs pair span }
+    requires potentials { AreDistances instance.now.arcs true instance.now.nodes pair.destination.0 potentials.now }
+    ensures { MatchResult result
+        (λ v. AreFound instance.now.arcs pair span v.items)
+        (λ e. (e ≡ LabelRefusal.Memory) ⊎ ((e ≡ LabelRefusal.TooManyLabels) × HasTooMany instance.now.arcs pair span.free)) }
+{
+    let free = span.free;
+    let mut family = Family::new(alloc, instance.nodes())?;
+    if !can_win(potentials, free, pair.origin, 0) {
+        return Ok(family.into_labels());
+    }
+    let mut pending = Queue::new(alloc);
+    family = family.with(start_label(pair.origin))?;
+    add_extensions(instance, potentials, free, &family, 0, &mut pending)?;
+    while let Some(label) = take_label(instance, &family, &mut pending) {
+        let number = family.len();
+        if number == MAX_LABELS {
+            return Err(LabelRefusal::TooManyLabels);
+        }
+        family = family.with(label)?;
+        add_extensions(
+            instance,
+            potentials,
+            free,
+            &family,
+            number as u32,
+            &mut pending,
+        )?;
+    }
+    Ok(family.into_labels())
+}
+
+/// The origin, with no toll and no cost.
+fn start_label(origin: NodeId) -> Label
+    ensures { result ≡ start_label origin }
+{
+    Label {
+        node: origin,
+        tolls: TollSet::empty(),
+        cost: 0,
+        last: None,
+        parent: 0,
+    }
+}

@@ -1,0 +1,73 @@
+//! The useful labels of a commodity, as a cover.
+
+ghost use Rattle.std.specs.Prelude.{◌≡◌, ◌⊎◌, ◌<◌, length, All, IfOk, IfErr, true};
+ghost use Rattle.npp_net.specs.Network.{IsNetwork, IsCommodity};
+ghost use Rattle.npp_net.specs.Walk.{RepeatsNoNode};
+ghost use Rattle.npp_net.specs.Distance.{IsSpan};
+ghost use Rattle.npp_short.specs.Potentials.{AreDistances};
+ghost use Rattle.npp_cover.specs.Useful.{commodity_at};
+ghost use Rattle.npp_cover.specs.Closed.{IsFreeWalk};
+ghost use Rattle.npp_cover.specs.Replaces.{IsCoverOf};
+ghost use Rattle.npp_labels.specs.declared.refusal.LabelRefusal.{LabelRefusal};
+ghost use Rattle.npp_labels.specs.Useful.{AreTheUseful, HasTooMany};
+
+use crate::best_first::search;
+use crate::refusal::LabelRefusal;
+use npp_cover::Cover;
+use npp_net::{Commodity, Instance, Memory, Span, Walk};
+use npp_short::{Potentials, distances_to, walk_from};
+use std::alloc::Global;
+
+/// The cover of commodity `k` whose labels are exactly its useful labels, each once.
+///
+/// The span is that of the commodity, and the potentials are those to its destination with tolls. The labels are numbered
+/// in the order in which a best-first search takes them: by cost and least cost onward, then by the number of tolls, then
+/// by cost, node and the number of the set of tolls.
+pub fn useful(
+    alloc: Global,
+    instance: &Instance,
+    k: u32,
+    span: Span,
+    potentials: &Potentials,
+) -> Result<Cover, LabelRefusal>
+    requires k { k < length instance.now.commodities }
+    requires span { IsSpan instance.now.arcs (commodity_at instance.now k) span }
+    requires potentials { AreDistances instance.now.arcs true instance.now.nodes (commodity_at instance.now k).destination.0 potentials.now }
+    ensures labels { IfOk result (λ c. AreTheUseful instance.now.arcs (commodity_at instance.now k) span.free c.labels) }
+    ensures cover { IfOk result (IsCoverOf instance.now.arcs (commodity_at instance.now k) span) }
+    ensures simple { IfOk result (λ c. All (λ p. RepeatsNoNode instance.now.arcs (commodity_at instance.now k).origin.0 p.arcs) c.paths) }
+    ensures refused { IfErr result (λ e. (e ≡ LabelRefusal.Memory)
+        ⊎ ((e ≡ LabelRefusal.TooManyLabels) × HasTooMany instance.now.arcs (commodity_at instance.now k) span.free)) }
+{
+    let pair = instance.commodities()[k as usize];
+    let labels = search(alloc, instance, potentials, span, pair)?;
+    let free = free_walk(alloc, instance, pair, span)?;
+    Ok(Cover::of_labels(alloc, instance, k, span, labels, free)?)
+}
+
+/// A toll-free walk of least cost that comes to no node twice.
+fn free_walk(
+    alloc: Global,
+    instance: &Instance,
+    pair: Commodity,
+    span: Span,
+) -> Result<Walk, Memory>
+    requires pair { IsCommodity instance.now.nodes pair }
+    requires span { IsSpan instance.now.arcs pair span }
+    ensures free { IfOk result (λ w. IsFreeWalk instance.now.arcs pair span.free w.arcs.items) }
+    ensures simple { IfOk result (λ w. RepeatsNoNode instance.now.arcs pair.origin.0 w.arcs.items) }
+{
+    let _ = span;
+    let potentials = distances_to(alloc, instance, pair.destination, false)?;
+    match walk_from(
+        alloc,
+        instance,
+        &potentials,
+        pair.origin,
+        pair.destination,
+        false,
+    )? {
+        Some(walk) => Ok(walk),
+        None => unreachable!(),
+    }
+}

@@ -1,0 +1,15 @@
+//! The useful labels of a commodity, by a best-first search, as a cover.
+#![tactic(auto)]
+
+mod best_first;
+mod commodity;
+mod family;
+mod pending;
+mod queue;
+mod refusal;
+mod steps;
+#[cfg(test)]
+mod tests;
+
+pub use commodity::useful;
+pub use refusal::LabelRefusal;

@@ -1,0 +1,21 @@
+//! Labels that wait to be taken.
+
+/// The extension of a label by an arc. The one to be taken first has the least cost onward to the destination; of those
+/// the fewest tolls, the least cost, the lowest node, the lowest number of its set, and then the one found first.
+#[derive(Clone, Copy, Debug, PartialEq, Eq, PartialOrd, Ord)]
+pub struct Pending {
+    /// Its cost and the least cost onward from its node, together.
+    pub bound: u64,
+    /// How many tolls it has.
+    pub size: u32,
+    /// Its cost.
+    pub cost: u64,
+    /// The number of its node.
+    pub node: u32,
+    /// The number of its set of tolls.
+    pub set: u64,
+    /// The number of the label that it extends.
+    pub parent: u32,
+    /// The number of the arc by which it does.
+    pub arc: u32,
+}

@@ -1,0 +1,46 @@
+//! Why the useful labels are not listed.
+
+use npp_net::Memory;
+use std::alloc::{AllocError, AllocFailed};
+
+/// Why the useful labels of a commodity are not listed.
+#[derive(Debug, PartialEq, Eq, Drop)]
+pub enum LabelRefusal {
+    /// There are over 65,536 of them.
+    TooManyLabels,
+    /// Memory was wanting.
+    Memory,
+}
+
+impl From<Memory> for LabelRefusal {
+    ghost use Rattle.std.specs.Prelude.{◌≡◌};
+    ghost use Rattle.npp_labels.specs.declared.refusal.LabelRefusal.TheVariants.{Memory};
+
+    ghost from_gives = { λ _ e. e ≡ Memory };
+
+    fn from(_: Memory) -> Self {
+        LabelRefusal::Memory
+    }
+}
+
+impl From<AllocError> for LabelRefusal {
+    ghost use Rattle.std.specs.Prelude.{◌≡◌};
+    ghost use Rattle.npp_labels.specs.declared.refusal.LabelRefusal.TheVariants.{Memory};
+
+    ghost from_gives = { λ _ e. e ≡ Memory };
+
+    fn from(_: AllocError) -> Self {
+        LabelRefusal::Memory
+    }
+}
+
+impl<T: Drop> From<AllocFailed<T>> for LabelRefusal {
+    ghost use Rattle.std.specs.Prelude.{◌≡◌};
+    ghost use Rattle.npp_labels.specs.declared.refusal.LabelRefusal.TheVariants.{Memory};
+
+    ghost from_gives = { λ _ e. e ≡ Memory };
+
+    fn from(_: AllocFailed<T>) -> Self {
+        LabelRefusal::Memory
+    }
+}
