@@ -26,8 +26,9 @@ awk 'BEGIN {
 
 {
   cat "$folder/largest"
-  awk 'BEGIN { for (i = 0; i < 64000; i++) print "# a comment of sixty-four bytes, its line feed counted, no more." }'
-} | head -c 4194304 > "$folder/long"
+  awk 'BEGIN { for (i = 0; i < 65000; i++) print "# a comment of sixty-four bytes, its line feed counted, no more." }'
+} > "$folder/longer"
+head -c 4194304 "$folder/longer" > "$folder/long"
 
 "$top/npp" solve "$folder/largest" > "$folder/report" || true
 head -n 6 "$folder/report"
