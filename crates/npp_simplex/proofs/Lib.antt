@@ -1,0 +1,16 @@
+pub mod Tables
+pub mod Signs
+pub mod Zeros
+pub mod Reading
+pub mod Rows
+pub mod Splices
+pub mod Reducing
+pub mod Rowwise
+pub mod Pivoting
+pub mod Comparing
+pub mod Refining
+pub mod Turning
+pub mod Clearing
+pub mod Coefficients
+pub mod Starting
+pub mod Gathering

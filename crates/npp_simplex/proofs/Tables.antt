@@ -1,0 +1,42 @@
+-- Tables, and the lists in which they lie row after row.
+use Rattle.std.proofs.Common.{◌≡◌, ◌≢◌, ℕ, zero, suc, ◌+◌, ◌*◌, ◌<◌, ◌≤◌, List, [], ◌∷◌, map, length, get_or, arith, ap, ap₂, sym, ◌∙◌, refl, inl, inr, add-one}
+use Rattle.std.proofs.lemmas.Bool.{cases_order}
+use Rattle.std.specs.List.{range_with_len}
+use Rattle.std.proofs.lemmas.List.FromFn.{get_or-map-range_with_len}
+use Rattle.std.proofs.Math.Nat.{mul-le-mul_right}
+use Rattle.npp_frac.specs.Rational.{Rational, zero_ℚ}
+use Rattle.npp_lp.specs.Programs.{at}
+use Rattle.npp_simplex.specs.Tableau.{table}
+
+pub row_in_table : (i h w : ℕ) → i < h → i * w + w ≤ h * w
+row_in_table i h w l = let k : suc i * w ≤ h * w = mul-le-mul_right w l in omega (arith, k)
+
+pub place_in_table : (i j h w : ℕ) → i < h → j < w → i * w + j < h * w
+place_in_table i j h w l k = omega (arith, row_in_table i h w l)
+
+-- two places of one table are apart
+pub places_apart : (i j k l w : ℕ) → j < w → l < w → i ≢ k → i * w + j ≢ k * w + l
+places_apart i j k l w a b e same = elim (cases_order i k) [
+  | inl x ↦ absurd (e x)
+  | inr y ↦ elim y [ inl x ↦ omega (arith, row_in_table i k w x) | inr x ↦ omega (arith, row_in_table k i w x) ]
+]
+
+pub table_cell : (h w : ℕ) (f : ℕ → ℕ → Rational) (i j : ℕ) → i < h → j < w → at (get_or (table h w f) i []) j ≡ f i j
+table_cell h w f i j a b =
+    ap (λ r. at r j) (get_or-map-range_with_len (λ i. map (λ j. f i j) (range_with_len 0 w)) 0 h i i [] a (omega arith))
+    ∙ get_or-map-range_with_len (λ j. f i j) 0 w j j zero_ℚ b (omega arith)
+
+map_range_same : {X : Type 0} (f g : ℕ → X) (a n : ℕ) → ((k : ℕ) → a ≤ k → k < a + n → f k ≡ g k) → map f (range_with_len a n) ≡ map g (range_with_len a n)
+map_range_same f g a zero h = refl
+map_range_same f g a (suc n) h = rw add-one (ap₂ ◌∷◌ (h a (omega arith) (omega arith)) (map_range_same f g (suc a) n (λ k l m. h k (omega arith) (omega arith))))
+
+pub table_same : (h w : ℕ) (f g : ℕ → ℕ → Rational) → ((i j : ℕ) → i < h → j < w → f i j ≡ g i j) → table h w f ≡ table h w g
+table_same h w f g e =
+    map_range_same (λ i. map (λ j. f i j) (range_with_len 0 w)) (λ i. map (λ j. g i j) (range_with_len 0 w)) 0 h
+    (λ i a l. map_range_same (f i) (g i) 0 w (λ j b m. e i j (omega arith) (omega arith)))
+
+-- a number that was read
+pub at_read : {N : Type 0} (v : N → Rational) (xs : List N) (k : ℕ) (x : N) → k < length xs → x ≡ get_or xs k x → at (map v xs) k ≡ v x
+at_read v [] k x l e = absurd (omega arith)
+at_read v (y ∷ xs) zero x l e = ap v (sym e)
+at_read v (y ∷ xs) (suc k) x l e = at_read v xs k x (omega arith) e

@@ -1,0 +1,19 @@
+use Rattle.std.proofs.Common.{◌+◌, ap, sym, ◌∙◌, arith}
+use Rattle.npp_frac.specs.Rational.{zero_ℚ, is_less}
+use Rattle.npp_lp.specs.VerdictLaws.{first_below_more, first_below_found}
+use Rattle.npp_simplex.specs.Ratio.{rising_at}
+use Rattle.npp_simplex.specs.Meaning.{tableau_of}
+use Rattle.npp_simplex.proofs.Reading.{rises, stays}
+use Rattle.npp_simplex.proofs.cells.rising_column.Goals as goal
+
+pub returns-then-is_positive-clause-column : goal.returns-then-is_positive-clause-column
+returns-then-is_positive-clause-column g c =
+    let t = tableau_of g.N.Exact.rational c.args.shape c.args.cells.now in
+    let here = rises t c.args.goal c.loop-j.j (ap (is_less zero_ℚ) (sym c.cell.ensures) ∙ sym c.is_positive.ensures ∙ c.if-is_positive.true) in
+    sym (first_below_found (rising_at t c.args.goal) (c.args.shape.columns + c.args.shape.rows) c.loop-j.j c.loop-j.j (omega arith) c.loop-j.invariant here)
+
+pub loop-j-preserved : goal.loop-j-preserved
+loop-j-preserved g c =
+    let t = tableau_of g.N.Exact.rational c.args.shape c.args.cells.now in
+    let here = stays t c.args.goal c.loop-j.j (ap (is_less zero_ℚ) (sym c.cell.ensures) ∙ sym c.is_positive.ensures ∙ c.if-is_positive.false) in
+    first_below_more (rising_at t c.args.goal) c.loop-j.j c.loop-j.invariant here

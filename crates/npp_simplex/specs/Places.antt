@@ -1,0 +1,77 @@
+-- The first place of a pivot at which a number does not fit a width. With no limit every number fits.
+use Rattle.std.specs.Prelude.{ℕ, List, [], ◌∷◌, length, slice_index, Bool, true, ◌&&◌, Option, Some, None, nat_eq, if◌then◌else◌}
+use Rattle.npp_frac.specs.Rational.{Rational, ◌*ℚ◌}
+use Rattle.npp_frac.specs.Fits.{fits_sub, fits_mul, fits_div}
+use Rattle.npp_lp.specs.Verdict.{or_else, first_below}
+use Rattle.npp_simplex.specs.declared.place.Place.{Place}
+use Rattle.npp_simplex.specs.declared.answer.Step.TheVariants.{Ratio, Pivot}
+use Rattle.npp_simplex.specs.declared.stage.Stage.{Stage}
+use Rattle.npp_simplex.specs.declared.stage.Stage.TheVariants.{Entry, PhaseOne, PhaseTwo}
+use Rattle.npp_simplex.specs.Tableau.{Tableau, cell, divided_cell, width, height}
+use Rattle.npp_simplex.specs.Ratio.{candidates, compared, keys, least_rows}
+
+-- whether a test of size holds at the limit
+abbrev pub fits_at : Option ℕ → (ℕ → Bool) → Bool
+fits_at None fits = true
+fits_at (Some limit) fits = fits limit
+
+abbrev pub place_unless : Bool → Place → Option Place
+place_unless fits place = if fits then None else Some place
+
+-- the column, where a number in it does not fit
+abbrev pub column_unless : Bool → ℕ → Option ℕ
+column_unless fits j = if fits then None else Some j
+
+-- whether a number less the product of two fits: the product, and then the difference
+abbrev pub fits_less_product : ℕ → Rational → Rational → Rational → Bool
+fits_less_product m x y z = fits_mul m y z && fits_sub m x (y *ℚ z)
+
+-- the first of some rows at which there is a fault
+abbrev pub first_row : (ℕ → Option Place) → List ℕ → Option Place
+first_row fault rows = first_below (length rows) (λ k. fault (slice_index rows k))
+
+-- whether the quotient of row i at column k fits: phase one's first pivot divides nothing in its choice
+abbrev pub quotient_fits : Option ℕ → Stage → Tableau → ℕ → ℕ → ℕ → Bool
+quotient_fits limit Entry t c k i = true
+quotient_fits limit PhaseOne t c k i = fits_at limit (λ m. fits_div m (cell t i k) (cell t i c))
+quotient_fits limit PhaseTwo t c k i = fits_at limit (λ m. fits_div m (cell t i k) (cell t i c))
+
+abbrev pub quotient_stop : Option ℕ → Stage → Tableau → ℕ → ℕ → ℕ → Option Place
+quotient_stop limit s t c k i = place_unless (quotient_fits limit s t c k i) (record { step = Ratio; row = i; column = k })
+
+-- at one column of the ratio test, in the order of the rows
+abbrev pub quotients_stop : Option ℕ → Stage → Tableau → ℕ → ℕ → List ℕ → Option Place
+quotients_stop limit s t c k rows = first_row (quotient_stop limit s t c k) rows
+
+-- in a ratio test, column by column; where one row remains nothing is divided
+abbrev pub ratio_stop : Option ℕ → Stage → Tableau → ℕ → List ℕ → List ℕ → Option Place
+ratio_stop limit s t c keys [] = None
+ratio_stop limit s t c keys (i ∷ []) = None
+ratio_stop limit s t c [] (i ∷ j ∷ rows) = None
+ratio_stop limit s t c (k ∷ keys) (i ∷ j ∷ rows) =
+    or_else (quotients_stop limit s t c k (i ∷ j ∷ rows)) (ratio_stop limit s t c keys (least_rows (compared s t c k) (i ∷ j ∷ rows)))
+
+-- the place in a row of a replacement
+abbrev pub in_row : ℕ → Option ℕ → Option Place
+in_row i None = None
+in_row i (Some j) = Some (record { step = Pivot; row = i; column = j })
+
+-- where row r is divided by its entry in column c
+abbrev pub division_stop : Option ℕ → Tableau → ℕ → ℕ → Option Place
+division_stop limit t r c =
+    in_row r (first_below (width t) (λ j. column_unless (fits_at limit (λ m. fits_div m (cell t r j) (cell t r c))) j))
+
+-- where row i loses its multiple of the divided row
+abbrev pub row_stop : Option ℕ → Tableau → ℕ → ℕ → ℕ → Option Place
+row_stop limit t r c i =
+    in_row i (first_below (width t) (λ j. column_unless (fits_at limit (λ m. fits_less_product m (cell t i j) (cell t i c) (divided_cell t r c j))) j))
+
+-- in a replacement: row r first, and then the other rows in order
+abbrev pub pivot_stop : Option ℕ → Tableau → ℕ → ℕ → Option Place
+pivot_stop limit t r c =
+    or_else (division_stop limit t r c)
+    (first_below (height t) (λ i. if nat_eq i r then None else row_stop limit t r c i))
+
+-- in a whole pivot: its ratio test, and then its replacement
+abbrev pub first_stop : Option ℕ → Stage → Tableau → ℕ → ℕ → Option Place
+first_stop limit s t r c = or_else (ratio_stop limit s t c (keys t) (candidates s t c)) (pivot_stop limit t r c)

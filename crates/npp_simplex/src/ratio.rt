@@ -1,0 +1,215 @@
+// The ratio test: the lexicographic choice of the row that leaves the basis.
+
+ghost use Rattle.std.specs.Prelude.{◌≡◌, ◌≢◌, ℕ, ◌+◌, ◌<◌, ◌≤◌, ◌^◌, length, take, Some, None, is_some, IfSome, IfNone, IfOk, IfErr, map, slice_index};
+ghost use Rattle.std.specs.List.{range_with_len};
+ghost use Rattle.npp_frac.specs.Rational.{zero_ℚ};
+ghost use Rattle.npp_frac.specs.Fits.{limit_of};
+ghost use Rattle.npp_lp.specs.Programs.{at};
+ghost use Rattle.npp_simplex.specs.Tableau.{cell as cell_of};
+ghost use Rattle.npp_simplex.specs.Ratio.{compared as compared_of, keys, least_rows, refined};
+ghost use Rattle.npp_simplex.specs.Places.{quotient_fits, quotients_stop, ratio_stop};
+ghost use Rattle.npp_simplex.specs.Meaning.{tableau_of, cell_count, IsCandidate, AreCandidates, IsLeastOf, rows_up_to};
+
+use crate::answer::Step;
+use crate::cells::cell;
+use crate::numbers::{is_below, lesser, quotient};
+use crate::place::Place;
+use crate::shape::Shape;
+use crate::stage::Stage;
+use npp_frac::Exact;
+
+/// What a row is compared by at a key, or None where it does not fit.
+pub fn compared<N: Exact>(
+    shape: Shape,
+    cells: &[N],
+    stage: Stage,
+    column: usize,
+    key: usize,
+    row: usize,
+) -> Option<N>
+    requires whole { length cells.now ≡ cell_count shape }
+    requires column { column < shape.columns + shape.rows + 2 }
+    requires key { key < shape.columns + shape.rows + 2 }
+    requires row { IsCandidate (tableau_of N.rational shape cells.now) column row }
+    ensures fits { is_some result ≡ quotient_fits (Some (limit_of N.WIDTH)) stage (tableau_of N.rational shape cells.now) column key row }
+    ensures exact { IfSome result (λ q. N.rational q ≡ compared_of stage (tableau_of N.rational shape cells.now) column key row) }
+{
+    let entry = cell(shape, cells, row, key);
+    match stage {
+        Stage::Entry => Some(entry),
+        Stage::PhaseOne => quotient(entry, cell(shape, cells, row, column)),
+        Stage::PhaseTwo => quotient(entry, cell(shape, cells, row, column)),
+    }
+}
+
+/// Writes what each of the first candidates is compared by at a key into a list, up to the first that does
+/// not fit, whose place it answers.
+pub fn compare_all<N: Exact>(
+    shape: Shape,
+    cells: &[N],
+    stage: Stage,
+    column: usize,
+    key: usize,
+    candidates: &[u32],
+    count: usize,
+    numbers: &mut [N],
+) -> Option<Place>
+    requires whole { length cells.now ≡ cell_count shape }
+    requires column { column < shape.columns + shape.rows + 2 }
+    requires key { key < shape.columns + shape.rows + 2 }
+    requires count { count ≤ length candidates.now }
+    requires room { count ≤ length numbers.old }
+    requires rows { AreCandidates (tableau_of N.rational shape cells.now) column (take count candidates.now) }
+    ensures stop { result ≡ quotients_stop (Some (limit_of N.WIDTH)) stage (tableau_of N.rational shape cells.now) column key (take count candidates.now) }
+    ensures numbers { IfNone result ((k : ℕ) → k < count → at (map N.rational numbers.new) k ≡ compared_of stage (tableau_of N.rational shape cells.now) column key (slice_index candidates.now k)) }
+{
+    for s in 0..count {
+        match compared(shape, cells, stage, column, key, candidates[s] as usize) {
+            Some(number) => numbers[s] = number,
+            None => {
+                return Some(Place {
+                    step: Step::Ratio,
+                    row: candidates[s],
+                    column: key as u32,
+                });
+            }
+        }
+    }
+    None
+}
+
+/// The least of some numbers.
+pub fn least<N: Exact>(numbers: &[N], count: usize) -> N
+    requires some { 0 < count }
+    requires count { count ≤ length numbers.now }
+    ensures { IsLeastOf (take count (map N.rational numbers.now)) (N.rational result) }
+{
+    let mut best = numbers[0];
+    for s in 1..count {
+        best = lesser(best, numbers[s]);
+    }
+    best
+}
+
+/// Keeps those of the first candidates whose number is not above the best, and tells how many they are.
+pub fn keep<N: Exact>(candidates: &mut [u32], count: usize, numbers: &[N], best: N) -> usize
+    requires count { count ≤ length candidates.old }
+    requires numbers { count ≤ length numbers.now }
+    ensures within { result ≤ count }
+    ensures rows { take result candidates.new ≡ rows_up_to (N.rational best) (map N.rational numbers.now) count candidates.old }
+{
+    let mut kept = 0;
+    for s in 0..count {
+        if !is_below(best, numbers[s]) {
+            candidates[kept] = candidates[s];
+            kept += 1;
+        }
+    }
+    kept
+}
+
+/// Keeps those of the first candidates that are least at a key, and tells how many they are, or the place that does not fit.
+pub fn refine_at<N: Exact>(
+    shape: Shape,
+    cells: &[N],
+    stage: Stage,
+    column: usize,
+    key: usize,
+    candidates: &mut [u32],
+    count: usize,
+    numbers: &mut [N],
+) -> Result<usize, Place>
+    requires whole { length cells.now ≡ cell_count shape }
+    requires column { column < shape.columns + shape.rows + 2 }
+    requires key { key < shape.columns + shape.rows + 2 }
+    requires some { 0 < count }
+    requires count { count ≤ length candidates.old }
+    requires room { length candidates.old ≤ length numbers.old }
+    requires rows { AreCandidates (tableau_of N.rational shape cells.now) column (take count candidates.old) }
+    ensures stop { IfErr result (λ place. quotients_stop (Some (limit_of N.WIDTH)) stage (tableau_of N.rational shape cells.now) column key (take count candidates.old) ≡ Some place) }
+    ensures fits { IfOk result (λ left. quotients_stop (Some (limit_of N.WIDTH)) stage (tableau_of N.rational shape cells.now) column key (take count candidates.old) ≡ None) }
+    ensures rows { IfOk result (λ left. take left candidates.new ≡ least_rows (compared_of stage (tableau_of N.rational shape cells.now) column key) (take count candidates.old)) }
+    ensures some { IfOk result (λ left. 0 < left) }
+    ensures within { IfOk result (λ left. left ≤ count) }
+{
+    match compare_all(shape, cells, stage, column, key, candidates, count, numbers) {
+        Some(place) => Err(place),
+        None => {
+            let best = least(numbers, count);
+            Ok(keep(candidates, count, numbers, best))
+        }
+    }
+}
+
+/// The candidate that remains when the first ones are compared at one slack after the other, or the place that does not fit.
+pub fn refine_by_slacks<N: Exact>(
+    shape: Shape,
+    cells: &[N],
+    stage: Stage,
+    column: usize,
+    candidates: &mut [u32],
+    count: usize,
+    numbers: &mut [N],
+) -> Result<u32, Place>
+    requires whole { length cells.now ≡ cell_count shape }
+    requires column { column < shape.columns + shape.rows + 2 }
+    requires some { 0 < count }
+    requires count { count ≤ length candidates.old }
+    requires room { length candidates.old ≤ length numbers.old }
+    requires rows { AreCandidates (tableau_of N.rational shape cells.now) column (take count candidates.old) }
+    ensures stop { IfErr result (λ place. ratio_stop (Some (limit_of N.WIDTH)) stage (tableau_of N.rational shape cells.now) column (range_with_len shape.columns shape.rows) (take count candidates.old) ≡ Some place) }
+    ensures fits { IfOk result (λ row. ratio_stop (Some (limit_of N.WIDTH)) stage (tableau_of N.rational shape cells.now) column (range_with_len shape.columns shape.rows) (take count candidates.old) ≡ None) }
+    ensures row { IfOk result (λ row. row ≡ slice_index (refined (compared_of stage (tableau_of N.rational shape cells.now) column) (range_with_len shape.columns shape.rows) (take count candidates.old)) 0) }
+    ensures candidate { IfOk result (λ row. IsCandidate (tableau_of N.rational shape cells.now) column row) }
+{
+    let mut left = count;
+    for key in shape.columns..shape.extra() {
+        if left < 2 {
+            return Ok(candidates[0]);
+        }
+        match refine_at(shape, cells, stage, column, key, candidates, left, numbers) {
+            Ok(fewer) => left = fewer,
+            Err(place) => return Err(place),
+        }
+    }
+    Ok(candidates[0])
+}
+
+/// The row that leaves the basis, of the first candidates, or the place of the ratio test that does not fit.
+pub fn leaving<N: Exact>(
+    shape: Shape,
+    cells: &[N],
+    stage: Stage,
+    column: usize,
+    candidates: &mut [u32],
+    count: usize,
+    numbers: &mut [N],
+) -> Result<u32, Place>
+    requires whole { length cells.now ≡ cell_count shape }
+    requires column { column < shape.columns + shape.rows + 2 }
+    requires some { 0 < count }
+    requires count { count ≤ length candidates.old }
+    requires room { length candidates.old ≤ length numbers.old }
+    requires rows { AreCandidates (tableau_of N.rational shape cells.now) column (take count candidates.old) }
+    ensures stop { IfErr result (λ place. ratio_stop (Some (limit_of N.WIDTH)) stage (tableau_of N.rational shape cells.now) column (keys (tableau_of N.rational shape cells.now)) (take count candidates.old) ≡ Some place) }
+    ensures fits { IfOk result (λ row. ratio_stop (Some (limit_of N.WIDTH)) stage (tableau_of N.rational shape cells.now) column (keys (tableau_of N.rational shape cells.now)) (take count candidates.old) ≡ None) }
+    ensures row { IfOk result (λ row. row ≡ slice_index (refined (compared_of stage (tableau_of N.rational shape cells.now) column) (keys (tableau_of N.rational shape cells.now)) (take count candidates.old)) 0) }
+    ensures candidate { IfOk result (λ row. IsCandidate (tableau_of N.rational shape cells.now) column row) }
+{
+    if count < 2 {
+        return Ok(candidates[0]);
+    }
+    match refine_at(
+        shape,
+        cells,
+        stage,
+        column,
+        shape.right(),
+        candidates,
+        count,
+        numbers,
+    ) {
+        Ok(left) => refine_by_slacks(shape, cells, stage, column, candidates, left, numbers),
+        Err(place) => Err(place),
+    }
+}

@@ -1,0 +1,64 @@
+// How a tableau lies in memory.
+
+ghost use Rattle.std.specs.Prelude.{◌≡◌, ◌+◌, ◌*◌, ◌^◌, ◌<◌, ◌≤◌};
+
+/// The size of a program. Its tableau has two more rows, the goal rows, and its columns are those of
+/// the program, a slack for each row, the extra column of phase one and the right side. The numbers of
+/// a tableau are kept in one list, row after row.
+#[derive(Clone, Copy, Debug)]
+pub struct Shape {
+    /// How many rows the program has.
+    pub rows: usize,
+    /// How many columns the program has.
+    pub columns: usize,
+    ghost small: { columns + rows < 2 ^ 31 },
+}
+
+impl Shape {
+    /// How many columns the tableau has.
+    pub fn width(self) -> usize
+        ensures { result ≡ self.columns + self.rows + 2 }
+    {
+        self.columns + self.rows + 2
+    }
+
+    /// How many rows the tableau has.
+    pub fn height(self) -> usize
+        ensures { result ≡ self.rows + 2 }
+    {
+        self.rows + 2
+    }
+
+    /// The extra column of phase one, which is also the number of columns before it.
+    pub fn extra(self) -> usize
+        ensures { result ≡ self.columns + self.rows }
+    {
+        self.columns + self.rows
+    }
+
+    /// The column of the right sides.
+    pub fn right(self) -> usize
+        ensures { result ≡ self.columns + self.rows + 1 }
+    {
+        self.columns + self.rows + 1
+    }
+
+    /// How many numbers the tableau has.
+    pub fn size(self) -> usize
+        ensures { result ≡ (self.rows + 2) * (self.columns + self.rows + 2) }
+    {
+        self.height() * self.width()
+    }
+
+    /// Where a number stands in the list.
+    pub fn place(self, row: usize, column: usize) -> usize
+        requires row { row < self.rows + 2 }
+        requires column { column < self.columns + self.rows + 2 }
+        ensures place { result ≡ row * (self.columns + self.rows + 2) + column }
+        ensures within { result < (self.rows + 2) * (self.columns + self.rows + 2) }
+        ensures row_within { row * (self.columns + self.rows + 2) + (self.columns + self.rows + 2) ≤ (self.rows + 2) * (self.columns + self.rows + 2) }
+        ensures small { (self.rows + 2) * (self.columns + self.rows + 2) < 2 ^ 63 }
+    {
+        row * self.width() + column
+    }
+}
