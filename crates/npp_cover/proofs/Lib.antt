@@ -11,3 +11,4 @@ pub mod TreeLemmas
 pub mod ReplaceLemmas
 pub mod CoverLemmas
 pub mod FaultLemmas
+pub mod CapLemmas

@@ -6,3 +6,4 @@ pub mod Paths
 pub mod PathValue
 pub mod Closed
 pub mod Replaces
+pub mod Caps

@@ -1,15 +1,13 @@
 //! Drafts on small networks, with their covers and their faults.
 
-ghost use Rattle.std.specs.Prelude.{◌≡◌, ◌<◌, true, false, IfSome};
-ghost use Rattle.npp_net.specs.declared.types.Commodity.{Commodity};
+ghost use Rattle.std.specs.Prelude.{◌<◌, IfOk, IfSome};
 ghost use Rattle.npp_net.specs.Distance.{IsSpan};
-ghost use Rattle.npp_short.specs.Potentials.{AreDistances};
 
 use crate::{Cover, CoverDraft, CoverFault, StepDraft, check_cover};
 use npp_net::{
-    ArcId, Commodity, Instance, NetArc, NetRefusal, NodeId, Span, TollId, TollSet, Walk,
+    ArcId, Commodity, Instance, Memory, NetArc, NetRefusal, NodeId, Span, TollId, TollSet, Walk,
 };
-use npp_short::{Potentials, distances_to};
+use npp_short::distances_to;
 use std::alloc::{AllocError, Global};
 use std::test::Fail;
 
@@ -56,30 +54,25 @@ fn draft(
     })
 }
 
-/// The span of a commodity that has a toll-free walk.
-fn span_of(
-    instance: &Instance,
-    pair: Commodity,
-    with_tolls: &Potentials,
-    without: &Potentials,
-) -> Option<Span>
+/// The span of a commodity, if it has a toll-free walk.
+fn span_of(alloc: Global, instance: &Instance, pair: Commodity) -> Result<Option<Span>, Memory>
     requires origin { pair.origin.0 < instance.now.nodes }
-    requires with_tolls { AreDistances instance.now.arcs true instance.now.nodes pair.destination.0 with_tolls.now }
-    requires without { AreDistances instance.now.arcs false instance.now.nodes pair.destination.0 without.now }
-    ensures { IfSome result (IsSpan instance.now.arcs pair) }
+    requires destination { pair.destination.0 < instance.now.nodes }
+    ensures { IfOk result (λ o. IfSome o (IsSpan instance.now.arcs pair)) }
 {
-    let _ = instance;
-    let free = without.at(pair.origin)?;
-    let zero = with_tolls.at(pair.origin)?;
-    Some(Span { free, zero })
+    let without = distances_to(alloc, instance, pair.destination, false)?;
+    let with_tolls = distances_to(alloc, instance, pair.destination, true)?;
+    match without.at(pair.origin) {
+        None => Ok(None),
+        Some(free) => Ok(with_tolls.at(pair.origin).map(|zero| Span { free, zero })),
+    }
 }
 
 /// The cover of a draft for the first commodity.
 fn check(alloc: Global, instance: &Instance, draft: CoverDraft) -> Result<Cover, CoverFault> {
     let pair = instance.commodities()[0];
     let potentials = distances_to(alloc, instance, pair.destination, true)?;
-    let without = distances_to(alloc, instance, pair.destination, false)?;
-    match span_of(instance, pair, &potentials, &without) {
+    match span_of(alloc, instance, pair)? {
         Some(span) => check_cover(alloc, instance, 0, span, &potentials, draft),
         None => Err(CoverFault::Memory),
     }
@@ -143,6 +136,31 @@ fn the_first_fault_is_named(rt: HostRuntime) -> Result<(), Fail> {
     assert_eq!(rt;
         fault(alloc, &net, true, &[(0, 0)]),
         Some(CoverFault::Useless(1))
+    );
+    Ok(())
+}
+
+/// The start counts as a label.
+#[test]
+fn labels_are_counted_first(rt: HostRuntime) -> Result<(), Fail> {
+    let alloc = rt.alloc();
+    let net = detour(alloc)?;
+    let mut steps = Vec::new(alloc);
+    for _ in 0..65_535 {
+        steps.push((0, 1))?;
+    }
+    assert_eq!(rt;
+        fault(alloc, &net, true, &steps),
+        Some(CoverFault::NotClosed(1, ArcId(2)))
+    );
+    steps.push((0, 1))?;
+    assert_eq!(rt;
+        fault(alloc, &net, true, &steps),
+        Some(CoverFault::TooManyLabels)
+    );
+    assert_eq!(rt;
+        fault(alloc, &net, false, &steps),
+        Some(CoverFault::NotAStep(0))
     );
     Ok(())
 }
