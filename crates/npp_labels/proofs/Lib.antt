@@ -4,5 +4,13 @@ pub mod SizeLemmas
 pub mod StepLemmas
 pub mod ChainLemmas
 pub mod FrontierLemmas
-pub mod SearchLemmas
+pub mod Searching
+pub mod StartLemmas
+pub mod TakenLemmas
+pub mod NextLemmas
+pub mod EndLemmas
 pub mod SimpleLemmas
+pub mod CoverLemmas
+pub mod CountLemmas
+pub mod PathCountLemmas
+pub mod LimitLemmas

@@ -2,3 +2,4 @@ pub mod Order
 pub mod Lists
 pub mod Search
 pub mod Useful
+pub mod Covers

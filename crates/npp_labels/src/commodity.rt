@@ -1,15 +1,15 @@
 //! The useful labels of a commodity, as a cover.
 
-ghost use Rattle.std.specs.Prelude.{◌≡◌, ◌⊎◌, ◌<◌, length, All, IfOk, IfErr, true};
+ghost use Rattle.std.specs.Prelude.{◌≡◌, ◌⊎◌, ◌<◌, length, All, IfOk, IfErr, true, false};
 ghost use Rattle.npp_net.specs.Network.{IsNetwork, IsCommodity};
 ghost use Rattle.npp_net.specs.Walk.{RepeatsNoNode};
-ghost use Rattle.npp_net.specs.Distance.{IsSpan};
+ghost use Rattle.npp_net.specs.Distance.{IsSpan, HasNoFreePath};
 ghost use Rattle.npp_short.specs.Potentials.{AreDistances};
+ghost use Rattle.npp_short.specs.Shortest.{IsShortestWalk};
 ghost use Rattle.npp_cover.specs.Useful.{commodity_at};
-ghost use Rattle.npp_cover.specs.Closed.{IsFreeWalk};
 ghost use Rattle.npp_cover.specs.Replaces.{IsCoverOf};
 ghost use Rattle.npp_labels.specs.declared.refusal.LabelRefusal.{LabelRefusal};
-ghost use Rattle.npp_labels.specs.Useful.{AreTheUseful, HasTooMany};
+ghost use Rattle.npp_labels.specs.Useful.{AreTheUseful, AreUsefulPaths, HasTooMany};
 
 use crate::best_first::search;
 use crate::refusal::LabelRefusal;
@@ -34,6 +34,8 @@ pub fn useful(
     requires span { IsSpan instance.now.arcs (commodity_at instance.now k) span }
     requires potentials { AreDistances instance.now.arcs true instance.now.nodes (commodity_at instance.now k).destination.0 potentials.now }
     ensures labels { IfOk result (λ c. AreTheUseful instance.now.arcs (commodity_at instance.now k) span.free c.labels) }
+    ensures few { IfOk result (λ _. HasTooMany instance.now.arcs (commodity_at instance.now k) span.free → ⊥) }
+    ensures paths { IfOk result (λ c. AreUsefulPaths instance.now.arcs (commodity_at instance.now k) span.free c) }
     ensures cover { IfOk result (IsCoverOf instance.now.arcs (commodity_at instance.now k) span) }
     ensures simple { IfOk result (λ c. All (λ p. RepeatsNoNode instance.now.arcs (commodity_at instance.now k).origin.0 p.arcs) c.paths) }
     ensures refused { IfErr result (λ e. (e ≡ LabelRefusal.Memory)
@@ -41,23 +43,16 @@ pub fn useful(
 {
     let pair = instance.commodities()[k as usize];
     let labels = search(alloc, instance, potentials, span, pair)?;
-    let free = free_walk(alloc, instance, pair, span)?;
+    let free = free_walk(alloc, instance, pair)?;
     Ok(Cover::of_labels(alloc, instance, k, span, labels, free)?)
 }
 
 /// A toll-free walk of least cost that comes to no node twice.
-fn free_walk(
-    alloc: Global,
-    instance: &Instance,
-    pair: Commodity,
-    span: Span,
-) -> Result<Walk, Memory>
+fn free_walk(alloc: Global, instance: &Instance, pair: Commodity) -> Result<Walk, Memory>
     requires pair { IsCommodity instance.now.nodes pair }
-    requires span { IsSpan instance.now.arcs pair span }
-    ensures free { IfOk result (λ w. IsFreeWalk instance.now.arcs pair span.free w.arcs.items) }
-    ensures simple { IfOk result (λ w. RepeatsNoNode instance.now.arcs pair.origin.0 w.arcs.items) }
+    requires free_path { HasNoFreePath instance.now.arcs pair → ⊥ }
+    ensures { IfOk result (λ w. IsShortestWalk instance.now.arcs false pair.origin.0 pair.destination.0 w.arcs.items) }
 {
-    let _ = span;
     let potentials = distances_to(alloc, instance, pair.destination, false)?;
     match walk_from(
         alloc,

@@ -3,6 +3,7 @@
 
 mod best_first;
 mod commodity;
+mod covers;
 mod family;
 mod pending;
 mod queue;
@@ -12,4 +13,5 @@ mod steps;
 mod tests;
 
 pub use commodity::useful;
+pub use covers::{CoversRefusal, useful_all};
 pub use refusal::LabelRefusal;

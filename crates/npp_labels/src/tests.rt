@@ -1,13 +1,12 @@
-//! The useful labels of a small network.
+//! The useful covers of small networks, and the limits on long chains.
 
-ghost use Rattle.std.specs.Prelude.{◌≡◌, ◌<◌, true, false, IfSome};
-ghost use Rattle.npp_net.specs.Distance.{IsSpan};
-ghost use Rattle.npp_short.specs.Potentials.{AreDistances};
+ghost use Rattle.std.specs.Prelude.{◌<◌};
 
-use crate::{LabelRefusal, useful};
-use npp_cover::Cover;
-use npp_net::{ArcId, Commodity, Instance, NetArc, NetRefusal, NodeId, Span};
-use npp_short::{Potentials, distances_to};
+use crate::{CoversRefusal, LabelRefusal, useful, useful_all};
+use npp_bounds::free_and_zero;
+use npp_cover::{Cover, Label};
+use npp_net::{ArcId, Commodity, Instance, NetArc, NetRefusal, NodeId};
+use npp_short::distances_to;
 use std::alloc::Global;
 use std::test::Fail;
 
@@ -20,66 +19,146 @@ fn arc(tail: u32, head: u32, cost: u32, toll: bool) -> NetArc {
     }
 }
 
+/// A network with one commodity from node 0 to the last node, or with more such commodities from the given nodes.
+fn network(
+    alloc: Global,
+    nodes: u32,
+    arcs: &[NetArc],
+    origins: &[u32],
+) -> Result<Instance, NetRefusal>
+    requires { 0 < nodes }
+{
+    let mut pairs = Vec::new(alloc);
+    for origin in origins {
+        pairs.push(Commodity {
+            origin: NodeId(*origin),
+            destination: NodeId(nodes - 1),
+            demand: 1,
+        })?;
+    }
+    Instance::new(alloc, nodes, Vec::from_slice(alloc, arcs)?, pairs)
+}
+
+/// A chain of so many links, each a toll-free arc of cost 1 beside a toll arc of cost 0.
+fn chain(alloc: Global, links: u32, origins: &[u32]) -> Result<Instance, NetRefusal>
+    requires { links < 1000 }
+{
+    let mut arcs = Vec::new(alloc);
+    for node in 0..links {
+        arcs.push(arc(node, node + 1, 1, false))?;
+        arcs.push(arc(node, node + 1, 0, true))?;
+    }
+    network(alloc, links + 1, &arcs, origins)
+}
+
+/// The useful covers of an instance whose commodities have toll-free walks.
+fn covers(alloc: Global, instance: &Instance) -> Result<Vec<Cover>, CoversRefusal> {
+    match free_and_zero(alloc, instance) {
+        Ok(spans) => useful_all(alloc, instance, &spans),
+        Err(_) => Err(CoversRefusal::Memory),
+    }
+}
+
+/// The useful cover of the first commodity.
+fn first(alloc: Global, instance: &Instance) -> Result<Cover, LabelRefusal> {
+    let potentials = distances_to(alloc, instance, instance.commodities()[0].destination, true)?;
+    match free_and_zero(alloc, instance) {
+        Ok(spans) => useful(alloc, instance, 0, spans[0], &potentials),
+        Err(_) => Err(LabelRefusal::Memory),
+    }
+}
+
+/// Whether the paths are these, in order, each by the number of its set, its cost and its arcs.
+fn has_paths(cover: &Cover, rows: &[(u64, u64, &[ArcId])]) -> bool {
+    let paths = cover.paths();
+    if paths.len() != rows.len() {
+        return false;
+    }
+    for (i, (tolls, cost, arcs)) in rows.iter().enumerate() {
+        let path = &paths[i];
+        if path.tolls.number() != *tolls
+            || path.cost != *cost
+            || path.walk.arcs.as_slice() != *arcs
+        {
+            return false;
+        }
+    }
+    true
+}
+
 /// A detour by a toll arc that costs 2, a second toll arc on it that gains nothing, and a direct arc that costs 10.
-fn detour(alloc: Global) -> Result<Instance, NetRefusal> {
-    let arcs = vec![in alloc;
+fn detour(alloc: Global, origins: &[u32]) -> Result<Instance, NetRefusal> {
+    let arcs = [
         arc(0, 2, 10, false),
         arc(0, 1, 1, true),
         arc(1, 2, 1, false),
         arc(1, 2, 1, true),
-    ]?;
-    let pair = Commodity {
-        origin: NodeId(0),
-        destination: NodeId(2),
-        demand: 1,
-    };
-    Instance::new(alloc, 3, arcs, vec![in alloc; pair]?)
-}
-
-/// The span of a commodity that has a toll-free walk.
-fn span_of(
-    instance: &Instance,
-    pair: Commodity,
-    with_tolls: &Potentials,
-    without: &Potentials,
-) -> Option<Span>
-    requires origin { pair.origin.0 < instance.now.nodes }
-    requires with_tolls { AreDistances instance.now.arcs true instance.now.nodes pair.destination.0 with_tolls.now }
-    requires without { AreDistances instance.now.arcs false instance.now.nodes pair.destination.0 without.now }
-    ensures { IfSome result (IsSpan instance.now.arcs pair) }
-{
-    let _ = instance;
-    let free = without.at(pair.origin)?;
-    let zero = with_tolls.at(pair.origin)?;
-    Some(Span { free, zero })
-}
-
-/// The useful labels of the first commodity.
-fn first(alloc: Global, instance: &Instance) -> Result<Cover, LabelRefusal> {
-    let pair = instance.commodities()[0];
-    let potentials = distances_to(alloc, instance, pair.destination, true)?;
-    let without = distances_to(alloc, instance, pair.destination, false)?;
-    match span_of(instance, pair, &potentials, &without) {
-        Some(span) => useful(alloc, instance, 0, span, &potentials),
-        None => Err(LabelRefusal::Memory),
-    }
+    ];
+    network(alloc, 3, &arcs, origins)
 }
 
 #[test]
 fn a_path_with_a_needless_toll_is_not_useful(rt: HostRuntime) -> Result<(), Fail> {
     let alloc = rt.alloc();
-    let net = detour(alloc)?;
-    let cover = first(alloc, &net)?;
-    let labels = cover.labels();
-    assert_eq!(rt; labels.len(), 3);
-    assert_eq!(rt; labels[2].node, NodeId(2));
-    let paths = cover.paths();
-    assert_eq!(rt; paths.len(), 2);
-    assert_eq!(rt; paths[0].tolls.number(), 1);
-    assert_eq!(rt;
-        paths[0].walk.arcs.as_slice(),
-        [ArcId(1), ArcId(2)].as_slice()
+    let cover = first(alloc, &detour(alloc, &[0])?)?;
+    assert_eq!(rt; cover.labels().len(), 3);
+    let by_toll = [ArcId(1), ArcId(2)];
+    assert!(rt; has_paths(&cover, &[(1, 2, &by_toll), (0, 10, &[ArcId(0)])]));
+    Ok(())
+}
+
+#[test]
+fn each_commodity_has_its_cover(rt: HostRuntime) -> Result<(), Fail> {
+    let alloc = rt.alloc();
+    let one = covers(alloc, &detour(alloc, &[0])?)?;
+    assert_eq!(rt; one.len(), 1);
+    let two = covers(alloc, &detour(alloc, &[1, 0])?)?;
+    assert_eq!(rt; two.len(), 2);
+    assert_eq!(rt; two[0].labels().len(), 0);
+    assert!(rt; has_paths(&two[0], &[(0, 1, &[ArcId(2)])]));
+    let by_toll = [ArcId(1), ArcId(2)];
+    assert!(rt; has_paths(&two[1], &[(1, 2, &by_toll), (0, 10, &[ArcId(0)])]));
+    Ok(())
+}
+
+/// Two parallel toll arcs, then a loop with a toll and one without, then a cycle that costs nothing.
+#[test]
+fn loops_and_cycles_give_no_more_labels(rt: HostRuntime) -> Result<(), Fail> {
+    let alloc = rt.alloc();
+    let arcs = [
+        arc(0, 3, 10, false),
+        arc(0, 1, 2, true),
+        arc(0, 1, 2, true),
+        arc(1, 1, 0, false),
+        arc(1, 1, 0, true),
+        arc(1, 2, 0, false),
+        arc(2, 1, 0, false),
+        arc(2, 3, 1, false),
+    ];
+    let cover = first(alloc, &network(alloc, 4, &arcs, &[0])?)?;
+    assert_eq!(rt; cover.labels().len(), 7);
+    let by_first = [ArcId(1), ArcId(5), ArcId(7)];
+    let by_second = [ArcId(2), ArcId(5), ArcId(7)];
+    assert!(rt;
+        has_paths(
+            &cover,
+            &[(1, 3, &by_first), (2, 3, &by_second), (0, 10, &[ArcId(0)])]
+        )
     );
-    assert_eq!(rt; paths[1].cost, 10);
+    Ok(())
+}
+
+#[test]
+fn chains_pass_the_limits(rt: HostRuntime) -> Result<(), Fail> {
+    let alloc = rt.alloc();
+    let net = chain(alloc, 11, &[0])?;
+    assert_eq!(rt; first(alloc, &net)?.paths().len(), 2048);
+    assert!(rt; matches!(&covers(alloc, &net), Err(CoversRefusal::TooManyPaths(0))));
+    let net = chain(alloc, 11, &[1, 1])?;
+    assert!(rt; matches!(&covers(alloc, &net), Err(CoversRefusal::TooManyPaths(1))));
+    let net = chain(alloc, 16, &[15, 0])?;
+    assert!(rt; matches!(&covers(alloc, &net), Err(CoversRefusal::TooManyLabels(1))));
+    let net = chain(alloc, 16, &[0])?;
+    assert!(rt; matches!(&covers(alloc, &net), Err(CoversRefusal::TooManyLabels(0))));
     Ok(())
 }

@@ -7,7 +7,10 @@ use Rattle.npp_labels.specs.declared.pending.Pending.{Pending}
 use Rattle.npp_labels.specs.Lists.{Lists}
 use Rattle.npp_labels.specs.Search.{AreFound, AddsExtensions, AllDominated, TakesOne}
 use Rattle.npp_labels.proofs.StepLemmas.{none_left}
-use Rattle.npp_labels.proofs.SearchLemmas.{IsSearching, found_none, found_all, searching_start, searching_next, ready_of, too_many, node_within}
+use Rattle.npp_labels.proofs.Searching.{IsSearching}
+use Rattle.npp_labels.proofs.StartLemmas.{searching_start}
+use Rattle.npp_labels.proofs.NextLemmas.{searching_next, ready_of, too_many, node_within}
+use Rattle.npp_labels.proofs.EndLemmas.{found_none, found_all}
 use Rattle.npp_labels.proofs.best_first.search.Goals as goal
 
 pub returns-then-not-can_win : goal.returns-then-not-can_win

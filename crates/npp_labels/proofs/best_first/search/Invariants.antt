@@ -1,6 +1,6 @@
 use Rattle.std.proofs.Common.{◌≡◌, ◌-◌, length}
 use Rattle.npp_short.specs.Reach.{cost_at}
-use Rattle.npp_labels.proofs.SearchLemmas.{IsSearching}
+use Rattle.npp_labels.proofs.Searching.{IsSearching}
 use Rattle.npp_labels.proofs.best_first.search.Given as goal
 
 abbrev pub invariant-loop-label : goal.invariant-loop-label

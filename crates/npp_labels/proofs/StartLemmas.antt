@@ -1,0 +1,62 @@
+-- What is known when the start is taken.
+use Rattle.std.proofs.Common.{◌≡◌, inl, inr, ℕ, ◌+◌, ◌<◌, ◌≤◌, Bool, true, cond, List, [], ◌∷◌, Option, Some, None, refl, sym, ◌∙◌, ap, subst, arith}
+use Rattle.std.proofs.lemmas.Nat.Bits.{bit_at-zero}
+use Rattle.std.specs.Int.{bit_at}
+use Rattle.std.specs.Option.{option_or}
+use Rattle.npp_cover.specs.declared.fault.CoverFault.TheVariants.{Useless}
+use Rattle.npp_net.specs.declared.types.Commodity.{Commodity}
+use Rattle.npp_net.specs.Network.{Network, IsNetwork, IsCommodity, arc_at}
+use Rattle.npp_net.specs.Distance.{IsDistance}
+use Rattle.npp_net.specs.TollSets.{IsWithin}
+use Rattle.npp_cover.specs.declared.label.Label.{Label}
+use Rattle.npp_cover.specs.Labels.{label_at, start_label}
+use Rattle.npp_cover.specs.Useful.{CanWin, IsUsefulLabel}
+use Rattle.npp_cover.specs.Fault.{can_win}
+use Rattle.npp_cover.proofs.ClosureLemmas.{head_within}
+use Rattle.npp_cover.proofs.FaultLemmas.{faultless_labels, wins_by, below_by}
+use Rattle.npp_labels.specs.declared.pending.Pending.{Pending}
+use Rattle.npp_labels.specs.Search.{AddsExtensions, Waits}
+use Rattle.npp_labels.proofs.SizeLemmas.{size_le, size_same}
+use Rattle.npp_labels.proofs.Searching.{IsSearching}
+
+module _ (net : Network) (limits : IsNetwork net) (k : Commodity) (ends : IsCommodity net.nodes k) (free : ℕ) (onward : ℕ → Option ℕ)
+    (distances : (v : ℕ) → v < net.nodes → IsDistance net.arcs true v k.destination.0 (onward v)) where
+  nothing_within : (s : ℕ) → IsWithin s 0 → s ≡ 0
+  nothing_within s h = size_same s 0 h (size_le 0 s (λ b has. absurd (omega (arith, has, bit_at-zero b))))
+
+  none_or_some : (bit : ℕ) → bit ≡ 0 → ((bit ≡ 1) → 1 ≤ 0) × ((1 ≤ 0) → bit ≡ 1)
+  none_or_some bit e = ((λ one. absurd (omega arith)), (λ le. absurd (omega arith)))
+
+  first_only : (i : ℕ) → i < 1 → i ≡ 0
+  first_only i lt = omega arith
+
+  start_useful : CanWin net.arcs k free k.origin.0 0 → IsUsefulLabel net.arcs k free k.origin.0 0 0
+  start_useful wins = record {
+    pair = ([], record { leads = refl; uses = λ a. none_or_some (bit_at 0 a) (bit_at-zero a); costs = refl; wins = wins });
+    minimal = λ s c pair up. (nothing_within s up.within, omega (arith, up.cheaper));
+  }
+
+  pub searching_start : (pending : List Pending) → can_win onward free k.origin.0 0 ≡ true
+      → AddsExtensions net.arcs onward free (start_label k.origin ∷ []) 0 [] pending → IsSearching net k free onward (start_label k.origin ∷ []) pending
+  searching_start pending can_start adds =
+      let start : List Label = start_label k.origin ∷ [] in
+      let wins = wins_by net.arcs k free k.origin.0 0 (onward k.origin.0) (distances k.origin.0 ends.origin) can_start in
+      record {
+        good = faultless_labels net limits k free onward distances true [] ends.origin (ap (λ (b : Bool). option_or (cond b None (Some (Useless 0))) None) can_start);
+        some = omega arith;
+        few = omega arith;
+        useful = record {
+          each = λ i lt. subst (λ (j : ℕ). IsUsefulLabel net.arcs k free (label_at start j).node.0 (label_at start j).tolls (label_at start j).cost) (sym (first_only i lt)) (start_useful wins);
+          once = λ i j li lj same. first_only i li ∙ sym (first_only j lj);
+        };
+        valid = λ q h. elim (adds.added q h) [
+          | inl none ↦ absurd (omega (arith, none.1))
+          | inr is ↦ is
+        ];
+        frontier = λ i a lt arc tail wins'.
+            inr (subst (λ (j : ℕ). Waits pending j a) (sym (first_only i lt))
+            (adds.waits a arc (tail ∙ ap (λ (j : ℕ). (label_at start j).node.0) (first_only i lt))
+            (below_by net.arcs k free (arc_at net.arcs a).head.0 ((label_at start 0).cost + (arc_at net.arcs a).cost) (onward (arc_at net.arcs a).head.0)
+            (distances (arc_at net.arcs a).head.0 (head_within net a limits arc))
+            (subst (λ (j : ℕ). CanWin net.arcs k free (arc_at net.arcs a).head.0 ((label_at start j).cost + (arc_at net.arcs a).cost)) (first_only i lt) wins'))));
+      }
