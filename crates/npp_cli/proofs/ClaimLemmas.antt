@@ -1,21 +1,18 @@
 -- From the answer to the words to the claims on a run.
-use Rattle.std.proofs.Common.{◌≡◌, ◌≢◌, ℕ, ◌<◌, ◌≤◌, ◌⊎◌, inl, inr, Bool, true, false, List, length, nat_lt, Option, None, Some, Result, Ok, Err, MatchBool, MatchResult, sym, ◌∙◌, subst, refl, arith, if◌then◌else◌}
+use Rattle.std.proofs.Common.{◌≡◌, ◌≢◌, ℕ, ◌≤◌, inl, inr, Bool, true, false, List, length, nat_lt, Option, None, Some, Result, MatchBool, MatchResult, subst, refl, arith}
 use Rattle.std.proofs.lemmas.Bool.Decides.{nat_tests}
 use Rattle.npp_outside.specs.Shelf.{Files, file_at}
 use Rattle.npp_net.specs.Network.{Network, no_commodity}
 use Rattle.npp_reader.specs.declared.document.Document.{Document}
 use Rattle.npp_reader.specs.declared.refusal.ReadRefusal.{ReadRefusal}
-use Rattle.npp_reader.specs.Reading.{reading_of}
 use Rattle.npp_cli.specs.declared.words.FileJob.{FileJob}
-use Rattle.npp_cli.specs.declared.words.FileJob.TheVariants.{Solve, Bounds}
+use Rattle.npp_cli.specs.declared.words.FileJob.TheVariants.{Solve, Bounds, Paths}
 use Rattle.npp_cli.specs.Words.{Job, on_file, generate, job_of}
 use Rattle.npp_reader.specs.Canonical.{canonical_text}
 use Rattle.npp_cli.specs.Generated.{generated}
-use Rattle.npp_cli.specs.Printed.{report_text}
-use Rattle.npp_cli.specs.SpansText.{spans_text}
 use Rattle.npp_cli.specs.Texts.{too_long_text, usage_text}
 use Rattle.npp_cli.specs.Answers.{IsDone, AnswersInstance, AnswersFault, AnswersBytes, AnswersContent, AnswersFile, AnswersJob, AnswersNumber, Answers, instance_limit}
-use Rattle.npp_cli.specs.Claims.{IsGiven, IsAsked, NothingFailed, WasWritten, Prints, PrintsAbout, PrintsReport, PrintsBounds}
+use Rattle.npp_cli.specs.Claims.{IsGiven, IsAsked, NothingFailed, WasWritten, Prints, PrintsAbout, PrintsReport, PrintsBounds, PrintsPaths}
 use Rattle.npp_cli.specs.Runs.{Runs}
 use Rattle.npp_cli.proofs.StatusLemmas.{other_2, no_shelf_2, file_status}
 
@@ -62,6 +59,12 @@ prints_bounds words held old new status runs net given nothing =
     let whole = runs.whole nothing.sink nothing.memory in
     let bounded = given_done Bounds status whole.0 words held net given nothing.shelf whole.1 in
     record { spans = bounded.spans; are_spans = bounded.are_spans; grew = rw bounded.is_text at whole.2; is_status = bounded.is_status }
+
+pub prints_paths : (words : List (List ℕ)) (held : Option Files) (old new : Option (List ℕ)) (status : ℕ) → Runs words held old new status
+    → (net : Network) → IsGiven Paths words held net → NothingFailed status → PrintsPaths net old new status
+prints_paths words held old new status runs net given nothing =
+    let whole = runs.whole nothing.sink nothing.memory in
+    record { text = whole.0; says = given_done Paths status whole.0 words held net given nothing.shelf whole.1; grew = whole.2 }
 
 usage_of : (status : ℕ) (text : List ℕ) (held : Option Files) (job : Option Job) → job ≡ None → AnswersJob job held status text → (status ≡ 2) × (text ≡ usage_text)
 usage_of status text held job none answers = let OfJob : Option Job → Type 0 = λ j. AnswersJob j held status text in subst OfJob none answers

@@ -21,7 +21,7 @@ range_more a (suc n) =
     let e : a + 1 + n ≡ a + suc n = omega arith in
     ap (λ rest. a ∷ rest) (range_more (a + 1) n ∙ ap (λ m. range_with_len (a + 1) n ++ m ∷ []) e)
 
-same_numbers : (n : ℕ) → first_numbers (n + 1) ≡ first_numbers n ++ n ∷ []
+pub same_numbers : (n : ℕ) → first_numbers (n + 1) ≡ first_numbers n ++ n ∷ []
 same_numbers n = rw (add-one n, range_more 0 n, zero-add n) refl
 
 pub flat_map_first_more : {X : Type 0} (f : ℕ → List X) (n : ℕ) → flat_map f (first_numbers (n + 1)) ≡ flat_map f (first_numbers n) ++ f n

@@ -1,5 +1,5 @@
 -- From what a job says of an instance to the answer.
-use Rattle.std.proofs.Common.{ℕ, List, [], ◌∷◌, inr}
+use Rattle.std.proofs.Common.{◌⊎◌, ℕ, List, [], ◌∷◌, inr}
 use Rattle.std.proofs.lemmas.List.Elements.{All-cons, All-nil}
 use Rattle.npp_net.specs.declared.types.NetArc.{NetArc}
 use Rattle.npp_net.specs.declared.types.Commodity.{Commodity}
@@ -7,7 +7,8 @@ use Rattle.npp_net.specs.declared.types.Span.{Span}
 use Rattle.npp_net.specs.Network.{Network}
 use Rattle.npp_net.specs.Distance.{HasNoFreePath}
 use Rattle.npp_bounds.specs.Spans.{AreSpans, AllHaveFreePaths}
-use Rattle.npp_cli.specs.declared.words.FileJob.TheVariants.{Solve, Bounds}
+use Rattle.npp_cli.specs.declared.words.FileJob.TheVariants.{Solve, Bounds, Paths}
+use Rattle.npp_cli.specs.Listed.{IsListed, IsOverLimit}
 use Rattle.npp_cli.specs.Answers.{AnswersInstance, IsSolved, IsBounded}
 
 pub all_have_free_paths : (arcs : List NetArc) (ks : List Commodity) (ss : List Span) → AreSpans arcs ks ss → AllHaveFreePaths arcs ks
@@ -25,3 +26,7 @@ solved_answers net ss status text are solved = inr (all_have_free_paths net.arcs
 pub bounded_answers : (net : Network) (ss : List Span) (status : ℕ) (text : List ℕ)
     → AreSpans net.arcs net.commodities ss → IsBounded net status text → AnswersInstance Bounds net status text
 bounded_answers net ss status text are bounded = inr (all_have_free_paths net.arcs net.commodities ss are, bounded)
+
+pub listed_answers : (net : Network) (ss : List Span) (status : ℕ) (text : List ℕ)
+    → AreSpans net.arcs net.commodities ss → IsListed net status text ⊎ IsOverLimit net status text → AnswersInstance Paths net status text
+listed_answers net ss status text are says = inr (all_have_free_paths net.arcs net.commodities ss are, says)

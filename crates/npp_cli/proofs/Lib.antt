@@ -1,5 +1,6 @@
 pub mod ClaimLemmas
 pub mod FileLemmas
+pub mod GeneratedLimits
 pub mod GeneratedNames
 pub mod Growth
 pub mod JobLemmas
@@ -8,3 +9,4 @@ pub mod PlainLemmas
 pub mod RunLemmas
 pub mod StatusLemmas
 pub mod Taking
+pub mod TollNumbers

@@ -11,12 +11,13 @@ use Rattle.npp_reader.specs.Canonical.{canonical_text}
 use Rattle.npp_bounds.specs.declared.refusal.BoundsRefusal.TheVariants.{NoFreePath}
 use Rattle.npp_bounds.specs.Spans.{AreSpans, AllHaveFreePaths, IsBoundsRefusal, basic}
 use Rattle.npp_cli.specs.declared.words.FileJob.{FileJob}
-use Rattle.npp_cli.specs.declared.words.FileJob.TheVariants.{Solve, Bounds}
+use Rattle.npp_cli.specs.declared.words.FileJob.TheVariants.{Solve, Bounds, Paths}
 use Rattle.npp_cli.specs.Words.{Job, on_file, generate, job_of}
 use Rattle.npp_cli.specs.Generated.{generated}
 use Rattle.npp_cli.specs.Printed.{PrintedReport, report_text}
 use Rattle.npp_cli.specs.Headline.{IsReportOf}
 use Rattle.npp_cli.specs.SpansText.{spans_text}
+use Rattle.npp_cli.specs.Listed.{IsListed, IsOverLimit}
 use Rattle.npp_cli.specs.Texts.{usage_text, missing_text, shelf_fault_text, too_long_text, faulty_line_text, no_free_path_text}
 
 -- how many bytes an instance file may have
@@ -41,6 +42,7 @@ pub record IsBounded (net : Network) (status : ℕ) (text : List ℕ) : Type 0 w
 abbrev pub IsDone : FileJob → Network → ℕ → List ℕ → Type 0
 IsDone Solve net status text = IsSolved net status text
 IsDone Bounds net status text = IsBounded net status text
+IsDone Paths net status text = IsListed net status text ⊎ IsOverLimit net status text
 
 -- the first commodity that has no toll-free walk is named with status 10; where each has one, the job is done
 abbrev pub AnswersInstance : FileJob → Network → ℕ → List ℕ → Type 0

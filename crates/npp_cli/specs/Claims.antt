@@ -1,5 +1,5 @@
 -- What a run owes where nothing stands in its way: the claims that a reader of the output can count on.
-use Rattle.std.specs.Prelude.{◌≡◌, ◌≢◌, ℕ, ◌≤◌, List, length, Option, None, Some, Ok, if◌then◌else◌}
+use Rattle.std.specs.Prelude.{◌≡◌, ◌≢◌, ◌⊎◌, ℕ, ◌≤◌, List, length, Option, Some, Ok, if◌then◌else◌}
 use Rattle.npp_outside.specs.Shelf.{Files, file_at}
 use Rattle.npp_outside.specs.Sink.{GrewBy}
 use Rattle.npp_net.specs.declared.types.Span.{Span}
@@ -11,6 +11,7 @@ use Rattle.npp_cli.specs.Words.{on_file, job_of}
 use Rattle.npp_cli.specs.Printed.{PrintedReport, report_text}
 use Rattle.npp_cli.specs.SpansText.{spans_text}
 use Rattle.npp_cli.specs.Headline.{IsReportOf}
+use Rattle.npp_cli.specs.Listed.{IsListed, IsOverLimit}
 use Rattle.npp_cli.specs.Answers.{AnswersContent, instance_limit}
 
 -- the words ask for this job on a file that is held, whose bytes are few enough and stand for this network,
@@ -56,6 +57,12 @@ pub record PrintsBounds (net : Network) (old new : Option (List ℕ)) (status : 
   pub are_spans : AreSpans net.arcs net.commodities spans
   pub grew : GrewBy old new (spans_text spans (basic net.commodities spans))
   pub is_status : status ≡ 0
+
+-- all that was written are the useful paths of each commodity, with status 0; or the first limit that is passed, with status 11
+pub record PrintsPaths (net : Network) (old new : Option (List ℕ)) (status : ℕ) : Type 0 where
+  pub text : List ℕ
+  pub says : IsListed net status text ⊎ IsOverLimit net status text
+  pub grew : GrewBy old new text
 
 -- all that was written is this text, and the status is this one
 pub record Prints (text : List ℕ) (expected : ℕ) (old new : Option (List ℕ)) (status : ℕ) : Type 0 where

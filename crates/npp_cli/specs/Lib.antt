@@ -4,6 +4,8 @@ pub mod Words
 pub mod Generated
 pub mod Headline
 pub mod SpansText
+pub mod PathsText
+pub mod Listed
 pub mod Answers
 pub mod Taken
 pub mod Report

@@ -32,3 +32,11 @@ faulty_line_text number kind = line (codes "refused instance line " ++ decimal n
 -- of the first commodity that has no toll-free walk
 abbrev pub no_free_path_text : ℕ → List ℕ
 no_free_path_text k = line (codes "refused no-free-path " ++ decimal k)
+
+-- of the first commodity that passes a limit, by its useful labels
+abbrev pub too_many_labels_text : ℕ → List ℕ
+too_many_labels_text k = line (codes "refused too-many-labels " ++ decimal k)
+
+-- and by the useful paths up to it
+abbrev pub too_many_paths_text : ℕ → List ℕ
+too_many_paths_text k = line (codes "refused too-many-paths " ++ decimal k)

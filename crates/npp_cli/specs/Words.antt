@@ -7,7 +7,7 @@ use Rattle.std.specs.declared.alloc.Global.{Global}
 use Rattle.npp_cli.specs.declared.words.Command.{Command}
 use Rattle.npp_cli.specs.declared.words.Command.TheVariants.{OnFile, Generate}
 use Rattle.npp_cli.specs.declared.words.FileJob.{FileJob}
-use Rattle.npp_cli.specs.declared.words.FileJob.TheVariants.{Solve, Bounds}
+use Rattle.npp_cli.specs.declared.words.FileJob.TheVariants.{Solve, Bounds, Paths}
 
 -- a job, with the name of its file or its number
 pub data Job : Type 0 where
@@ -47,8 +47,9 @@ abbrev pub job_named : List ℕ → List ℕ → Option Job
 job_named job first =
     if pointwise nat_eq job (codes "solve") then Some (on_file Solve first)
     else (if pointwise nat_eq job (codes "bounds") then Some (on_file Bounds first)
+    else (if pointwise nat_eq job (codes "paths") then Some (on_file Paths first)
     else (if pointwise nat_eq job (codes "gen") then option_map generate (number_of first)
-    else None))
+    else None)))
 
 -- the job that the words ask for: after the program's name a job and one word, which does not begin with a dash
 abbrev pub job_of : List (List ℕ) → Option Job

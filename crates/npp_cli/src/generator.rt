@@ -6,7 +6,7 @@ ghost use Rattle.npp_cli.specs.Answers.{AnswersNumber};
 ghost use Rattle.npp_cli.specs.Generated.{spread, first_numbers, generated, generated_names, generated_arcs, generated_pairs, main_node, side_node, main_arc, side_arcs, ramp_arcs, side_pair, both_ways};
 
 use crate::answers::Answer;
-use npp_net::{Commodity, Instance, Memory, NetArc, NodeId};
+use npp_net::{Commodity, Instance, Memory, NetArc, NetRefusal, NodeId};
 use npp_reader::{Document, Names, print};
 use std::alloc::Global;
 
@@ -26,7 +26,11 @@ pub fn generate(alloc: Global, number: u32) -> Result<Document, Memory>
     let pairs = commodities(alloc, number)?;
     match Instance::new(alloc, 2 * NODES, arcs, pairs) {
         Ok(instance) => Ok(Document { names, instance }),
-        Err(_) => Err(Memory),
+        Err(refusal) => match refusal {
+            NetRefusal::Memory => Err(Memory),
+            // It keeps all limits.
+            _ => unreachable!(),
+        },
     }
 }
 

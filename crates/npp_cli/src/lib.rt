@@ -3,6 +3,7 @@
 
 mod answers;
 mod generator;
+mod paths;
 mod program;
 mod report;
 mod solve;

@@ -8,11 +8,12 @@ ghost use Rattle.npp_cli.specs.Generated.{generated};
 ghost use Rattle.npp_cli.specs.Texts.{usage_text};
 ghost use Rattle.npp_cli.specs.Words.{texts, job_of, generate};
 ghost use Rattle.npp_cli.specs.Answers.{Answers, AnswersFile, AnswersBytes, instance_limit};
-ghost use Rattle.npp_cli.specs.Claims.{IsGiven, IsAsked, NothingFailed, WasWritten, Prints, PrintsAbout, PrintsReport, PrintsBounds};
+ghost use Rattle.npp_cli.specs.Claims.{IsGiven, IsAsked, NothingFailed, WasWritten, Prints, PrintsAbout, PrintsReport, PrintsBounds, PrintsPaths};
 ghost use Rattle.npp_cli.specs.Runs.{Runs, HasAnswerCause};
 
 use crate::answers::{Answer, faulty_line, missing, shelf_fault, too_long, usage};
 use crate::generator::answer_on_number;
+use crate::paths::paths;
 use crate::solve::solve;
 use crate::spans::bounds;
 use crate::take::{TakeRefusal, take_file};
@@ -42,6 +43,8 @@ pub fn run<S: Shelf, O: Sink>(alloc: Global, words: &[String], shelf: &mut S, ou
         → NothingFailed result → PrintsReport net (O.written out.old) (O.written out.new) result }
     ensures bounds { (net : Network) → IsGiven FileJob.Bounds (texts words.now) (S.held shelf.old) net
         → NothingFailed result → PrintsBounds net (O.written out.old) (O.written out.new) result }
+    ensures paths { (net : Network) → IsGiven FileJob.Paths (texts words.now) (S.held shelf.old) net
+        → NothingFailed result → PrintsPaths net (O.written out.old) (O.written out.new) result }
 
     // Each answer comes exactly by its cause, and its text is all that is written.
     ensures on_file { (job : FileJob) (name : List ℕ) (files : Files) → IsAsked job name files (texts words.now) (S.held shelf.old)
@@ -106,6 +109,7 @@ fn answer_on_bytes(alloc: Global, job: FileJob, bytes: &[u8]) -> Result<Answer, 
         Ok(document) => match job {
             FileJob::Solve => solve(alloc, &document.instance),
             FileJob::Bounds => bounds(alloc, &document.instance),
+            FileJob::Paths => paths(alloc, &document.instance),
         },
         Err(ReadRefusal::Line { line, kind }) => faulty_line(alloc, line, kind.word()),
         Err(ReadRefusal::Memory) => Err(Memory),

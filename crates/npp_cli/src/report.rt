@@ -79,8 +79,8 @@ fn write_path(text: &mut String, k: usize, path: &Path) -> Result<(), Memory>
     Ok(())
 }
 
-// The numbers of the arcs, each after a space.
-fn write_arcs(text: &mut String, arcs: &[ArcId]) -> Result<(), Memory>
+/// The numbers of the arcs, each after a space.
+pub fn write_arcs(text: &mut String, arcs: &[ArcId]) -> Result<(), Memory>
     ensures { OnOk result (string_bytes text.new ≡ string_bytes text.old ++ arc_fields arcs.now) }
 {
     for arc in arcs {

@@ -4,6 +4,7 @@ ghost use Rattle.std.specs.Prelude.{None};
 use crate::run;
 use npp_outside::{Shelf, ShelfAnswer, Sink, SinkAnswer, SureShelf, SureSink};
 use std::alloc::Global;
+use std::fmt::Write;
 use std::process::Abort;
 use std::test::Fail;
 
@@ -14,6 +15,12 @@ const TWO_ROADS_WITH_BLANKS: &str =
 
 const THREE_PAIRS: &str =
     "npp 1\nnode a\nnode b\nnode p\nnode q\nnode r\ntoll a b 2\nfree p a 0\nfree p b 10\nfree q a 0\nfree q b 8\nfree r a 0\nfree r b 5\npair p b 1\npair q b 1\npair r b 3\n";
+
+const NEEDLESS_TOLL: &str =
+    "npp 1\nnode a\nnode m\nnode b\nfree a b 10\ntoll a m 1\nfree m b 1\ntoll m b 1\npair a b 1\n";
+
+const CYCLES: &str =
+    "npp 1\nnode a\nnode b\nnode c\nnode d\ntoll b d 1\nfree a b 10\ntoll a b 2\ntoll a b 2\ntoll a b 4\nfree a a 0\ntoll a a 0\nfree a c 0\nfree c a 0\ntoll c a 0\ntoll c b 1\nfree a d 9\npair a b 5\npair c d 1\n";
 
 const USAGE: &str =
     "usage: npp solve FILE [--budget N] [--cuts N] [--numbers W] [--brief]\n       npp check FILE CERTIFICATE\n       npp bounds FILE\n       npp paths FILE\n       npp eval FILE TOLLS\n       npp gen NUMBER\n       npp demo NUMBER [--budget N] [--cuts N] [--numbers W]\n";
@@ -136,6 +143,7 @@ fn refusals(rt: HostRuntime) -> Result<(), Fail> {
     let rows = [
         ("solve", "file", tolls_only, 10, "refused no-free-path 0\n"),
         ("bounds", "file", tolls_only, 10, "refused no-free-path 0\n"),
+        ("paths", "file", tolls_only, 10, "refused no-free-path 0\n"),
         ("solve", "file", "", 3, "refused instance line 1 Header\n"),
         (
             "solve",
@@ -145,7 +153,9 @@ fn refusals(rt: HostRuntime) -> Result<(), Fail> {
             "refused instance line 3 RepeatedNode\n",
         ),
         ("solve", "none", "", 4, "missing none\n"),
+        ("paths", "none", "", 4, "missing none\n"),
         ("solve", "--file", "", 2, USAGE),
+        ("paths", "-x", "", 2, USAGE),
         ("price", "file", "", 2, USAGE),
         ("gen", "x", "", 2, USAGE),
         ("gen", "1000000", "", 2, USAGE),
@@ -171,6 +181,81 @@ fn refusals(rt: HostRuntime) -> Result<(), Fail> {
         12,
         "refused too-long file\n",
     )
+}
+
+#[test]
+fn a_word_too_many(rt: HostRuntime) -> Result<(), Fail> {
+    let alloc = rt.alloc();
+    let mut words = words(alloc, "paths", "file")?;
+    words.push(String::from_str(alloc, "file")?)?;
+    let mut shelf = SureShelf::new(Vec::new(alloc));
+    let mut out = SureSink::new(alloc);
+    assert_eq!(rt; run(alloc, &words, &mut shelf, &mut out), 2);
+    assert_eq!(rt; out.written(), USAGE.as_bytes());
+    Ok(())
+}
+
+// Parallel arcs, a loop and a cycle of cost 0 among them.
+#[test]
+fn useful_paths(rt: HostRuntime) -> Result<(), Fail> {
+    let rows = [
+        (
+            NEEDLESS_TOLL,
+            "commodity 0 2\nuseful 0 0 2 tolls 0 arcs 1 2\nuseful 0 1 10 tolls arcs 0\n",
+        ),
+        (
+            CYCLES,
+            "commodity 0 5\nuseful 0 0 1 tolls 6 arcs 7 10\nuseful 0 1 2 tolls 1 arcs 2\nuseful 0 2 2 tolls 2 arcs 3\nuseful 0 3 4 tolls 3 arcs 4\nuseful 0 4 10 tolls arcs 1\ncommodity 1 5\nuseful 1 0 2 tolls 0 6 arcs 10 0\nuseful 1 1 3 tolls 0 1 arcs 8 2 0\nuseful 1 2 3 tolls 0 2 arcs 8 3 0\nuseful 1 3 5 tolls 0 3 arcs 8 4 0\nuseful 1 4 9 tolls arcs 8 11\n",
+        ),
+    ];
+    for (text, written) in rows {
+        expect(
+            &rt,
+            rt.alloc(),
+            "paths",
+            "file",
+            text.as_bytes(),
+            0,
+            written,
+        )?;
+    }
+    Ok(())
+}
+
+// So many links in a row, each a toll-free arc of cost 1 beside a toll arc of cost 0.
+fn chain(alloc: Global, links: u32) -> Result<String, Fail> {
+    let mut text = String::from_str(alloc, "npp 1\nnode v0\n")?;
+    for i in 0..links {
+        let next = i + 1;
+        writeln!(
+            text,
+            "node v{next}\nfree v{i} v{next} 1\ntoll v{i} v{next} 0"
+        )?;
+    }
+    writeln!(text, "pair v0 v{links} 1")?;
+    Ok(text)
+}
+
+// 11 links have 2,048 useful paths, 16 links have 131,070 useful labels.
+#[test]
+fn over_the_limits(rt: HostRuntime) -> Result<(), Fail> {
+    let rows = [
+        (11, "refused too-many-paths 0\n"),
+        (16, "refused too-many-labels 0\n"),
+    ];
+    for (links, written) in rows {
+        let text = chain(rt.alloc(), links)?;
+        expect(
+            &rt,
+            rt.alloc(),
+            "paths",
+            "file",
+            text.as_bytes(),
+            11,
+            written,
+        )?;
+    }
+    Ok(())
 }
 
 #[test]

@@ -9,6 +9,8 @@ pub enum FileJob {
     Solve,
     /// The two least costs of each commodity, and the basic bound.
     Bounds,
+    /// The useful paths of each commodity.
+    Paths,
 }
 
 /// A job, with the word that says for what it is done.
@@ -41,6 +43,9 @@ pub fn command_of(words: &[String]) -> Option<Command<'_>>
     }
     if job == "bounds" {
         return Some(Command::OnFile(FileJob::Bounds, first));
+    }
+    if job == "paths" {
+        return Some(Command::OnFile(FileJob::Paths, first));
     }
     if job == "gen" {
         return match number_of(first) {

@@ -1,0 +1,118 @@
+//! The job `paths`: the useful paths of each commodity.
+ghost use Rattle.std.specs.Prelude.{◌≡◌, ◌==◌, ◌<◌, ◌++◌, ◌∷◌, [], ◌⊎◌, ℕ, IfOk, OnOk, if◌then◌else◌, map, string_bytes};
+ghost use Rattle.std.specs.Int.{bit_at};
+ghost use Rattle.std.specs.Fmt.{decimal};
+ghost use Rattle.npp_bounds.specs.Spans.{AreSpans};
+ghost use Rattle.npp_cover.specs.PathValue.{path_value};
+ghost use Rattle.npp_cli.specs.Answer.{IsAnswer};
+ghost use Rattle.npp_cli.specs.Answers.{AnswersInstance};
+ghost use Rattle.npp_cli.specs.Listed.{IsListed, IsOverLimit};
+ghost use Rattle.npp_cli.specs.Printed.{numbered_lines};
+ghost use Rattle.npp_cli.specs.PathsText.{paths_text, commodity_lines, useful_line, toll_fields, tolls_of_set};
+
+use crate::answers::{Answer, no_free_path, too_many_labels, too_many_paths};
+use crate::report::write_arcs;
+use crate::words::FileJob;
+use npp_bounds::{BoundsRefusal, free_and_zero};
+use npp_cover::{Cover, UsefulPath};
+use npp_labels::{CoversRefusal, useful_all};
+use npp_net::{Instance, Memory, Span, TollId, TollSet};
+use std::alloc::Global;
+use std::fmt::Write;
+
+/// The useful paths of each commodity, or the first commodity that has no toll-free walk, or else the first that passes
+/// a limit.
+pub fn paths(alloc: Global, instance: &Instance) -> Result<Answer, Memory>
+    ensures { IfOk result (λ answer. AnswersInstance FileJob.Paths instance.now answer.status (string_bytes answer.text)) }
+{
+    match free_and_zero(alloc, instance) {
+        Ok(spans) => within_limits(alloc, instance, &spans),
+        Err(BoundsRefusal::NoFreePath(k)) => no_free_path(alloc, k),
+        Err(BoundsRefusal::Memory) => Err(Memory),
+    }
+}
+
+// The text of the useful paths, or the first limit that is passed.
+fn within_limits(alloc: Global, instance: &Instance, spans: &[Span]) -> Result<Answer, Memory>
+    requires { AreSpans instance.now.arcs instance.now.commodities spans.now }
+    ensures { IfOk result (λ answer. IsListed instance.now answer.status (string_bytes answer.text)
+        ⊎ IsOverLimit instance.now answer.status (string_bytes answer.text)) }
+{
+    match useful_all(alloc, instance, spans) {
+        Ok(covers) => listed(alloc, &covers),
+        Err(CoversRefusal::TooManyLabels(k)) => too_many_labels(alloc, k),
+        Err(CoversRefusal::TooManyPaths(k)) => too_many_paths(alloc, k),
+        Err(CoversRefusal::Memory) => Err(Memory),
+    }
+}
+
+// The text of the useful paths.
+fn listed(alloc: Global, covers: &[Cover]) -> Result<Answer, Memory>
+    ensures { IfOk result (IsAnswer 0 (paths_text covers.now)) }
+{
+    let mut text = String::new(alloc);
+    write_covers(&mut text, covers)?;
+    Ok(Answer { status: 0, text })
+}
+
+// The lines of each commodity.
+fn write_covers(text: &mut String, covers: &[Cover]) -> Result<(), Memory>
+    ensures { OnOk result (string_bytes text.new ≡ string_bytes text.old ++ paths_text covers.now) }
+{
+    for (k, cover) in covers.iter().enumerate() {
+        write_cover(text, k, cover)?;
+    }
+    Ok(())
+}
+
+// The lines of commodity k.
+fn write_cover(text: &mut String, k: usize, cover: &Cover) -> Result<(), Memory>
+    ensures { OnOk result (string_bytes text.new ≡ string_bytes text.old ++ commodity_lines k cover.now) }
+{
+    let paths = cover.paths();
+    writeln!(text, "commodity {k} {}", paths.len())?;
+    write_paths(text, k, paths)
+}
+
+// One line for each useful path of commodity k.
+fn write_paths(text: &mut String, k: usize, paths: &[UsefulPath]) -> Result<(), Memory>
+    ensures { OnOk result (string_bytes text.new ≡ string_bytes text.old ++ numbered_lines (useful_line k) 0 (map path_value paths.now)) }
+{
+    for (q, path) in paths.iter().enumerate() {
+        write_path(text, k, q, path)?;
+    }
+    Ok(())
+}
+
+// The line of useful path q of commodity k.
+fn write_path(text: &mut String, k: usize, q: usize, path: &UsefulPath) -> Result<(), Memory>
+    ensures { OnOk result (string_bytes text.new ≡ string_bytes text.old ++ useful_line k q (path_value path.now)) }
+{
+    write!(text, "useful {k} {q} {} tolls", path.cost)?;
+    write_tolls(text, path.tolls)?;
+    write!(text, " arcs")?;
+    write_arcs(text, &path.walk.arcs)?;
+    writeln!(text)?;
+    Ok(())
+}
+
+// The toll numbers of the set, each after a space.
+fn write_tolls(text: &mut String, tolls: TollSet) -> Result<(), Memory>
+    ensures { OnOk result (string_bytes text.new ≡ string_bytes text.old ++ toll_fields (tolls_of_set tolls)) }
+{
+    for a in 0..64 {
+        write_toll(text, tolls, a)?;
+    }
+    Ok(())
+}
+
+// The toll number after a space, where it is in the set.
+fn write_toll(text: &mut String, tolls: TollSet, a: u32) -> Result<(), Memory>
+    requires { a < 64 }
+    ensures { OnOk result (string_bytes text.new ≡ string_bytes text.old ++ (if bit_at tolls a == 1 then 32 ∷ decimal a else [])) }
+{
+    if tolls.has(TollId(a)) {
+        write!(text, " {a}")?;
+    }
+    Ok(())
+}
