@@ -2,3 +2,4 @@ pub mod Deciding
 pub mod Digits
 pub mod Pairs
 pub mod Wider
+pub mod Signs

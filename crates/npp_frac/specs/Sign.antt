@@ -23,6 +23,9 @@ below_zero_of_num q h = Is-lt (Is-self q) (Is-whole (pos 0)) (omega (arith, ints
 pub num_of_below_zero : (q : Rational) → q <ℚ zero_ℚ → q.num <ℤ pos 0
 num_of_below_zero q h = omega (arith, ints, lt-Is (Is-self q) (Is-whole (pos 0)) h)
 
+pub nonpositive_of_num : (q : Rational) → q.num ≤ℤ pos 0 → q ≤ℚ zero_ℚ
+nonpositive_of_num q h = Is-le (Is-self q) (Is-whole (pos 0)) (omega (arith, ints, h))
+
 pub zero_of_num : (q : Rational) → q.num ≡ pos 0 → q ≡ zero_ℚ
 zero_of_num q e = Is-same (Is-self q) (Is-whole (pos 0)) (omega (arith, ints, e))
 

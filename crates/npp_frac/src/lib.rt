@@ -17,6 +17,7 @@ mod gcd;
 mod numbers;
 mod reduced;
 mod refusal;
+mod sign;
 #[cfg(test)]
 mod tests;
 mod text;
@@ -27,5 +28,6 @@ pub use frac32::Frac32;
 pub use frac64::Frac64;
 pub use frac128::Frac128;
 pub use refusal::{Memory, Op, Overflow};
+pub use sign::{is_below, is_negative, is_positive, is_zero};
 pub use text::{parse_fraction, print_fraction};
 pub use widths::{apply, apply_at_both};

@@ -2,6 +2,5 @@ pub mod Adding
 pub mod Coefficients
 pub mod Joining
 pub mod Lookups
-pub mod Signs
 pub mod Verdicts
 pub mod Zeros

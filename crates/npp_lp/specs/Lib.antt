@@ -12,3 +12,4 @@ pub mod PrimalVerdict
 pub mod AnswerLaws
 pub mod PassLaws
 pub mod Meaning
+pub mod GrowLaws

@@ -8,10 +8,10 @@ ghost use Rattle.npp_lp.specs.DualVerdict.{dual_verdict};
 ghost use Rattle.npp_lp.specs.Meaning.{linear_program, dual_result, IsProgram};
 
 use crate::faults::DualFault;
-use crate::numbers::{first_negative, is_below};
+use crate::numbers::first_negative;
 use crate::program::Program;
 use crate::sums::{column_sum, product_sum};
-use npp_frac::Exact;
+use npp_frac::{Exact, is_below};
 
 /// The value `right * y` of a dual answer, or why the multipliers `y` are none.
 ///

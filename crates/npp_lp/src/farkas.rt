@@ -8,10 +8,10 @@ ghost use Rattle.npp_lp.specs.FarkasVerdict.{farkas_verdict};
 ghost use Rattle.npp_lp.specs.Meaning.{linear_program, farkas_result, IsProgram};
 
 use crate::faults::FarkasFault;
-use crate::numbers::{first_negative, is_negative};
+use crate::numbers::first_negative;
 use crate::program::Program;
 use crate::sums::{column_sum, product_sum};
-use npp_frac::Exact;
+use npp_frac::{Exact, is_negative};
 
 /// Whether the multipliers `y` are a Farkas answer, or why they are none.
 ///

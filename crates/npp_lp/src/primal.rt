@@ -7,10 +7,10 @@ ghost use Rattle.npp_lp.specs.PrimalVerdict.{primal_verdict};
 ghost use Rattle.npp_lp.specs.Meaning.{linear_program, primal_result, IsProgram};
 
 use crate::faults::PrimalFault;
-use crate::numbers::{first_negative, is_below};
+use crate::numbers::first_negative;
 use crate::program::Program;
 use crate::sums::{product_sum, row_sum};
-use npp_frac::Exact;
+use npp_frac::{Exact, is_below};
 
 /// The goal `goal * x` of a point, or why the vector `x` is no point.
 ///

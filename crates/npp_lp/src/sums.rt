@@ -10,9 +10,8 @@ ghost use Rattle.npp_lp.specs.Sums.{joined_sum, checked_sum};
 ghost use Rattle.npp_lp.specs.Checked.{checked_column, checked_terms};
 ghost use Rattle.npp_lp.specs.Meaning.{terms_of, linear_program, sum_result, IsProgram};
 
-use crate::numbers::is_zero;
 use crate::program::{Entry, Program};
-use npp_frac::{Exact, Overflow};
+use npp_frac::{Exact, Overflow, is_zero};
 
 /// The sum with the product of two numbers added to it.
 fn add_product<N: Exact>(sum: N, a: N, b: N) -> Result<N, Overflow<N>>

@@ -4,11 +4,10 @@ ghost use Rattle.std.specs.Prelude.{◌≡◌, ◌≢◌, ◌<◌, ◌^◌, [], 
 ghost use Rattle.npp_frac.specs.Rational.{zero_ℚ};
 ghost use Rattle.npp_lp.specs.Meaning.{IsProgram};
 
-use crate::numbers::is_zero;
 use crate::{
     DualFault, Entry, FarkasFault, PrimalFault, Program, check_dual, check_farkas, check_primal,
 };
-use npp_frac::{Exact, Frac32, Frac64, Op};
+use npp_frac::{Exact, Frac32, Frac64, Op, is_zero};
 use std::alloc::{AllocError, Global};
 use std::test::Fail;
 

@@ -1,8 +1,8 @@
 use Rattle.std.proofs.Common.{rules, FitsSigned, to_z-of_z, ap, ◌∙◌, pos}
 use Rattle.std.specs.Prelude.{int_lt}
 use Rattle.std.specs.Int.{w128}
-use Rattle.npp_lp.proofs.Signs.{negative_of_num}
-use Rattle.npp_lp.proofs.numbers.is_negative.Goals as goal
+use Rattle.npp_frac.proofs.Signs.{negative_of_num}
+use Rattle.npp_frac.proofs.sign.is_negative.Goals as goal
 
 pub returns : goal.returns
 returns g c =

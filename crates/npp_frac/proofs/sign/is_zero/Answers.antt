@@ -1,7 +1,7 @@
 use Rattle.std.proofs.Common.{rules, FitsSigned}
 use Rattle.std.specs.Int.{w128}
-use Rattle.npp_lp.proofs.Signs.{zero_test_rational}
-use Rattle.npp_lp.proofs.numbers.is_zero.Goals as goal
+use Rattle.npp_frac.proofs.Signs.{zero_test_rational}
+use Rattle.npp_frac.proofs.sign.is_zero.Goals as goal
 
 pub returns : goal.returns
 returns g c =

@@ -1,0 +1,10 @@
+use Rattle.std.proofs.Common.{rules, FitsSigned, to_z-of_z, ap, ◌∙◌, pos}
+use Rattle.std.specs.Prelude.{int_lt}
+use Rattle.std.specs.Int.{w128}
+use Rattle.npp_frac.proofs.Signs.{positive_of_num}
+use Rattle.npp_frac.proofs.sign.is_positive.Goals as goal
+
+pub returns : goal.returns
+returns g c =
+    let fits : FitsSigned w128 c.num.result = search rules in
+    ap (λ t. int_lt (pos 0) t) (to_z-of_z fits ∙ c.num.ensures) ∙ positive_of_num (g.N.Exact.rational c.args.number)
