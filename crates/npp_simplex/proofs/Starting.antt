@@ -189,7 +189,7 @@ module _ {N : Type 0} (value : N → Rational) where
 
 -- ---- phase one can begin
 
-one_apart : negative one_ℚ ≢ zero_ℚ
+pub one_apart : negative one_ℚ ≢ zero_ℚ
 unfolding whole ratio gcd gcd_within negative
 one_apart e = let num : negsuc 0 ≡ pos 0 = ap (λ q. q.num) e in cc
 

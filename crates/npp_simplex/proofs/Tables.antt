@@ -26,7 +26,7 @@ table_cell h w f i j a b =
     ap (λ r. at r j) (get_or-map-range_with_len (λ i. map (λ j. f i j) (range_with_len 0 w)) 0 h i i [] a (omega arith))
     ∙ get_or-map-range_with_len (λ j. f i j) 0 w j j zero_ℚ b (omega arith)
 
-map_range_same : {X : Type 0} (f g : ℕ → X) (a n : ℕ) → ((k : ℕ) → a ≤ k → k < a + n → f k ≡ g k) → map f (range_with_len a n) ≡ map g (range_with_len a n)
+pub map_range_same : {X : Type 0} (f g : ℕ → X) (a n : ℕ) → ((k : ℕ) → a ≤ k → k < a + n → f k ≡ g k) → map f (range_with_len a n) ≡ map g (range_with_len a n)
 map_range_same f g a zero h = refl
 map_range_same f g a (suc n) h = rw add-one (ap₂ ◌∷◌ (h a (omega arith) (omega arith)) (map_range_same f g (suc a) n (λ k l m. h k (omega arith) (omega arith))))
 

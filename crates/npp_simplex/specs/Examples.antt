@@ -8,6 +8,7 @@ use Rattle.npp_lp.specs.Programs.{LinearProgram, Row, Term}
 use Rattle.npp_simplex.specs.declared.answer.Step.TheVariants.{Ratio, Pivot}
 use Rattle.npp_simplex.specs.declared.place.Place.{Place}
 use Rattle.npp_simplex.specs.Run.{run, Outcome, Optimal, Infeasible, Unbounded, Overflow, Capped}
+use Rattle.npp_simplex.specs.Bases.{bases, choose, basis_count}
 
 -- ---- outcomes as whole numbers, which can be compared by computing
 
@@ -122,3 +123,22 @@ degenerate = program 2 (row (term 0 (pos 1) ∷ term 1 (negsuc 0) ∷ []) (whole
 degenerate_run : seen (run None 9 degenerate) ≡ Best ((pos 2, 1) ∷ (pos 1, 1) ∷ (pos 1, 1) ∷ []) ((pos 0, 1) ∷ (pos 1, 1) ∷ (pos 1, 1) ∷ []) 3
 unfolding gcd gcd_within whole ratio negative reciprocal is_less fits_add fits_sub fits_mul fits_div ◌+ℚ◌ ◌-ℚ◌ ◌*ℚ◌ ◌/ℚ◌ sum_by sum_to
 degenerate_run = refl
+
+-- ---- bases
+
+-- the slacks 2 and 3; column 0 enters for the second, and column 1 for the first
+two_columns_bases : bases two_columns 9 ≡ (2 ∷ 3 ∷ []) ∷ (2 ∷ 0 ∷ []) ∷ (1 ∷ 0 ∷ []) ∷ []
+unfolding gcd gcd_within whole ratio negative reciprocal is_less ◌+ℚ◌ ◌-ℚ◌ ◌*ℚ◌ ◌/ℚ◌ sum_by sum_to
+two_columns_bases = refl
+
+-- two of two columns, two slacks and the extra column
+two_columns_count : basis_count two_columns ≡ 10
+two_columns_count = refl
+
+-- the extra column 3 enters for the slack of the negative row, and column 0 for it
+at_least_bases : bases at_least 9 ≡ (1 ∷ 2 ∷ []) ∷ (1 ∷ 3 ∷ []) ∷ (1 ∷ 0 ∷ []) ∷ []
+unfolding gcd gcd_within whole ratio negative reciprocal is_less ◌+ℚ◌ ◌-ℚ◌ ◌*ℚ◌ ◌/ℚ◌ sum_by sum_to
+at_least_bases = refl
+
+choose_three_of_seven : choose 7 3 ≡ 35
+choose_three_of_seven = refl

@@ -5,4 +5,6 @@ pub mod Steps
 pub mod Vectors
 pub mod Run
 pub mod Meaning
+pub mod Proved
+pub mod Bases
 pub mod Examples

@@ -1,10 +1,12 @@
 // The whole run on a program.
 
-ghost use Rattle.std.specs.Prelude.{◌≡◌, ◌+◌, ◌<◌, length, Some, IfOk};
+ghost use Rattle.std.specs.Prelude.{◌≡◌, ℕ, ◌+◌, ◌<◌, length, Some, IfOk};
 ghost use Rattle.std.specs.List.{range_with_len};
 ghost use Rattle.npp_frac.specs.Fits.{limit_of};
 ghost use Rattle.npp_lp.specs.Meaning.{linear_program, IsProgram};
 ghost use Rattle.npp_simplex.specs.Run.{run, has_phase_one, first_stage as first_stage_of, Optimal, Infeasible, Unbounded};
+ghost use Rattle.npp_simplex.specs.Proved.{IsProved};
+ghost use Rattle.npp_simplex.specs.Bases.{bases, AreAllDifferent, basis_count, HasFewerPivots};
 ghost use Rattle.npp_simplex.specs.Vectors.{point as point_of, multipliers as multipliers_of, value as value_of, ray as ray_of};
 ghost use Rattle.npp_simplex.specs.Meaning.{tableau_of, cell_count, outcome_of, ended, EndsWithin};
 
@@ -163,6 +165,9 @@ pub fn solve_in<N: Exact>(
 pub fn solve<N: Exact>(alloc: Global, program: &Program<N>, cap: u32) -> Result<Answer<N>, Memory>
     requires program { IsProgram N.rational program.now }
     ensures answer { IfOk result (λ a. outcome_of N.rational a ≡ run (Some (limit_of N.WIDTH)) cap (linear_program N.rational program.now)) }
+    ensures proved { IfOk result (λ a. IsProved (linear_program N.rational program.now) (outcome_of N.rational a)) }
+    ensures bases { (pivots : ℕ) → AreAllDifferent (bases (linear_program N.rational program.now) pivots) }
+    ensures pivots { IfOk result (λ a. HasFewerPivots (basis_count (linear_program N.rational program.now)) cap (outcome_of N.rational a)) }
 {
     let shape = Shape {
         rows: program.rows.len(),
