@@ -22,25 +22,21 @@ use Rattle.npp_simplex.proofs.Reading.{range_upto, filter_yes, filter_no}
 pub candidate_at : (t : Tableau) (c : ℕ) (xs : List ℕ) (n k : ℕ) → AreCandidates t c (take n xs) → k < n → n ≤ length xs → IsCandidate t c (slice_index xs k)
 candidate_at t c xs n k h l le = subst (IsCandidate t c) (get_or-take n xs k 0 l) (h k 0 (rw (length-take-le n xs le) l))
 
-module _ (limit : Option ℕ) (s : Stage) (t : Tableau) (c key : ℕ) (xs : List ℕ) (n : ℕ) where
+module _ (limit : Option ℕ) (s : Stage) (t : Tableau) (c key : ℕ) (xs : List ℕ) where
   abbrev stop_at : ℕ → Option Place
-  stop_at k = quotient_stop limit s t c key (slice_index (take n xs) k)
+  stop_at k = quotient_stop limit s t c key (slice_index xs k)
 
   abbrev place_at : ℕ → Place
   place_at k = record { step = Ratio; row = slice_index xs k; column = key }
 
-  seen : (j : ℕ) → j < n → stop_at j ≡ place_unless (quotient_fits limit s t c key (slice_index xs j)) (place_at j)
-  seen j l = ap (quotient_stop limit s t c key) (get_or-take n xs j 0 l)
+  pub stop_found : (j : ℕ) → j < length xs → first_below j stop_at ≡ None → false ≡ quotient_fits limit s t c key (slice_index xs j) → quotients_stop limit s t c key xs ≡ Some (place_at j)
+  stop_found j l none fails = first_below_found stop_at (length xs) j (place_at j) l none (ap (λ b. place_unless b (place_at j)) (sym fails))
 
-  pub stop_found : (j : ℕ) → j < n → n ≤ length xs → first_below j stop_at ≡ None → false ≡ quotient_fits limit s t c key (slice_index xs j) → quotients_stop limit s t c key (take n xs) ≡ Some (place_at j)
-  stop_found j l le none fails =
-      first_below_found stop_at (length (take n xs)) j (place_at j) (rw (length-take-le n xs le) l) none (seen j l ∙ ap (λ b. place_unless b (place_at j)) (sym fails))
+  pub stop_more : (j : ℕ) → first_below j stop_at ≡ None → true ≡ quotient_fits limit s t c key (slice_index xs j) → first_below (j + 1) stop_at ≡ None
+  stop_more j none holds = first_below_more stop_at j none (ap (λ b. place_unless b (place_at j)) (sym holds))
 
-  pub stop_more : (j : ℕ) → j < n → first_below j stop_at ≡ None → true ≡ quotient_fits limit s t c key (slice_index xs j) → first_below (j + 1) stop_at ≡ None
-  stop_more j l none holds = first_below_more stop_at j none (seen j l ∙ ap (λ b. place_unless b (place_at j)) (sym holds))
-
-  pub stop_none : (j : ℕ) → j ≡ n → n ≤ length xs → first_below j stop_at ≡ None → quotients_stop limit s t c key (take n xs) ≡ None
-  stop_none j e le none = ap (λ k. first_below k stop_at) (length-take-le n xs le ∙ sym e) ∙ none
+  pub stop_none : (j : ℕ) → j ≡ length xs → first_below j stop_at ≡ None → quotients_stop limit s t c key xs ≡ None
+  stop_none j e none = ap (λ k. first_below k stop_at) (sym e) ∙ none
 
 -- ---- the least number
 

@@ -1,48 +1,61 @@
-pub mod Tables
-pub mod Signs
+-- ---- numbers, sums and the first of some places
+pub mod NumberLaws
 pub mod Zeros
+pub mod Sums
+pub mod DoubleSums
+pub mod FirstPlaces
+pub mod Gathering
+-- ---- the code's table against the tableau of the run
+pub mod Tables
 pub mod Reading
 pub mod Rows
 pub mod Splices
+pub mod Coefficients
+pub mod Starting
+pub mod Comparing
+pub mod Refining
+pub mod Nonzero
+pub mod Eliminating
 pub mod Reducing
 pub mod Rowwise
 pub mod Pivoting
-pub mod Comparing
-pub mod Refining
-pub mod Turning
 pub mod Clearing
-pub mod Coefficients
-pub mod Starting
-pub mod Gathering
+pub mod StageStops
+pub mod Ready
+pub mod Turning
+-- ---- phase two without the parts of phase one
+pub mod Agreeing
+pub mod Unread
+-- ---- what a pivot keeps of the rows
 pub mod Invariant
-pub mod Counting
 pub mod CellLaws
-pub mod Choices
-pub mod Sums
-pub mod RowTurns
-pub mod NumberLaws
-pub mod DoubleSums
-pub mod KeyNumbers
-pub mod Directions
-pub mod SameBasis
-pub mod Reached
-pub mod PhaseSteps
-pub mod RowStarts
-pub mod FirstPlaces
-pub mod VectorLemmas
 pub mod FirstCells
+pub mod RowTurns
+pub mod RowStarts
+-- ---- the lexicographic order
 pub mod LexLemmas
+pub mod KeyNumbers
 pub mod RatioLemmas
 pub mod LexTurns
+pub mod LexStarts
+-- ---- what holds of each state of a run
+pub mod Choices
+pub mod Reached
+pub mod PhaseSteps
 pub mod ReachedFirst
 pub mod ReachedNext
-pub mod Multipliers
-pub mod Infeasibility
+-- ---- what an outcome proves
+pub mod VectorLemmas
 pub mod WeightSums
+pub mod Directions
+pub mod Multipliers
 pub mod PhaseTwo
 pub mod Optimality
+pub mod Infeasibility
 pub mod Rays
-pub mod LexStarts
 pub mod RunLemmas
+-- ---- no basis twice
+pub mod SameBasis
+pub mod Counting
 pub mod BasesDiffer
 pub mod RunBases

@@ -8,8 +8,8 @@ use Rattle.npp_lp.specs.Verdict.{or_else, first_below}
 use Rattle.npp_simplex.specs.declared.shape.Shape.{Shape}
 use Rattle.npp_simplex.specs.declared.place.Place.{Place}
 use Rattle.npp_simplex.specs.Tableau.{Tableau, cell, width, height, divided_cell, pivoted_cell, pivoted}
-use Rattle.npp_simplex.specs.Places.{column_unless, fits_less_product, in_row, division_stop, row_stop, pivot_stop}
-use Rattle.npp_simplex.specs.Steps.{reduced_cell, reduction_stop, reductions_stop}
+use Rattle.npp_simplex.specs.Places.{column_unless, fits_less_product, in_row}
+use Rattle.npp_simplex.specs.Steps.{reduced_cell, reduction_stop, reductions_stop, whole_division_stop, whole_row_stop, whole_pivot_stop}
 use Rattle.npp_simplex.specs.Meaning.{tableau_of, cell_count}
 use Rattle.npp_simplex.proofs.Tables.{table_same}
 use Rattle.npp_simplex.proofs.Reading.{cell_at}
@@ -33,10 +33,10 @@ not_eq : (i r : ℕ) → nat_eq i r ≡ false → i ≢ r
 not_eq i r h e = let k : nat_eq i r ≡ true = eq-eqb i r e in let clash : true ≡ false = sym k ∙ h in cc
 
 pub stops_are : (t now : Tableau) (r c : ℕ) (d : ℕ → Rational) (m : ℕ) → height now ≡ height t → width now ≡ width t → c < width t → IsDivided t now r c → ((j : ℕ) → j < width t → d j ≡ divided_cell t r c j)
-    → reductions_stop m now r c d ≡ first_below (height t) (λ i. cond (nat_eq i r) None (row_stop (Some m) t r c i))
+    → reductions_stop m now r c d ≡ first_below (height t) (λ i. cond (nat_eq i r) None (whole_row_stop (Some m) t r c i))
 stops_are t now r c d m high wide inside h e =
     let f : ℕ → Option Place = λ i. in_row i (reduction_stop m now r c d i) in
-    let g : ℕ → Option Place = λ i. cond (nat_eq i r) None (row_stop (Some m) t r c i) in
+    let g : ℕ → Option Place = λ i. cond (nat_eq i r) None (whole_row_stop (Some m) t r c i) in
     ap (λ n. first_below n f) high ∙ first_below_same f g (height t) (λ i l.
     let x : ℕ → Option ℕ = λ j. column_unless (fits_less_product m (cell now i j) (cell now i c) (d j)) j in
     let y : ℕ → Option ℕ = λ j. column_unless (fits_less_product m (cell t i j) (cell t i c) (divided_cell t r c j)) j in
@@ -57,7 +57,7 @@ module _ {N : Type 0} (v : N → Rational) (s : Shape) (xs : List N) (r c : ℕ)
   -- the row's quotients, as far as they fit
   pub divided_stop : (m a n : ℕ) (q : Rational) (o : Option ℕ) → a ≡ r * (s.columns + s.rows + 2) + 0 → n ≡ s.columns + s.rows + 2 → r < s.rows + 2 → length xs ≡ cell_count s → q ≡ cell (tableau_of v s xs) r c
       → o ≡ first_below (length (slice_range xs a (a + n))) (λ j. column_unless (fits_div m (at (map v (slice_range xs a (a + n))) j) q) j)
-      → in_row r o ≡ division_stop (Some m) (tableau_of v s xs) r c
+      → in_row r o ≡ whole_division_stop (Some m) (tableau_of v s xs) r c
   divided_stop m a n q o start size l whole entry e =
       let f : ℕ → Option ℕ = λ j. column_unless (fits_div m (at (map v (slice_range xs a (a + n))) j) q) j in
       let g : ℕ → Option ℕ = λ j. column_unless (fits_div m (cell (tableau_of v s xs) r j) (cell (tableau_of v s xs) r c)) j in
@@ -96,11 +96,11 @@ or_some None b x e = cc
 or_some (Some y) b x e = e
 
 -- the first stop of a replacement, where it comes in the division and where it does not
-pub stop_at_division : (m : ℕ) (t : Tableau) (r c j : ℕ) (o : Option ℕ) → in_row r o ≡ division_stop (Some m) t r c → o ≡ Some j → in_row r (Some j) ≡ pivot_stop (Some m) t r c
+pub stop_at_division : (m : ℕ) (t : Tableau) (r c j : ℕ) (o : Option ℕ) → in_row r o ≡ whole_division_stop (Some m) t r c → o ≡ Some j → in_row r (Some j) ≡ whole_pivot_stop (Some m) t r c
 stop_at_division m t r c j o e f =
-    let first : division_stop (Some m) t r c ≡ in_row r (Some j) = sym e ∙ ap (in_row r) f in
-    sym (or_some (division_stop (Some m) t r c) (first_below (height t) (λ i. cond (nat_eq i r) None (row_stop (Some m) t r c i))) _ first)
+    let first : whole_division_stop (Some m) t r c ≡ in_row r (Some j) = sym e ∙ ap (in_row r) f in
+    sym (or_some (whole_division_stop (Some m) t r c) (first_below (height t) (λ i. cond (nat_eq i r) None (whole_row_stop (Some m) t r c i))) _ first)
 
-pub stop_at_rows : (m : ℕ) (t : Tableau) (r c : ℕ) (o : Option ℕ) (p : Option Place) → in_row r o ≡ division_stop (Some m) t r c → o ≡ None → p ≡ first_below (height t) (λ i. cond (nat_eq i r) None (row_stop (Some m) t r c i)) → p ≡ pivot_stop (Some m) t r c
+pub stop_at_rows : (m : ℕ) (t : Tableau) (r c : ℕ) (o : Option ℕ) (p : Option Place) → in_row r o ≡ whole_division_stop (Some m) t r c → o ≡ None → p ≡ first_below (height t) (λ i. cond (nat_eq i r) None (whole_row_stop (Some m) t r c i)) → p ≡ whole_pivot_stop (Some m) t r c
 stop_at_rows m t r c o p e f g =
-    g ∙ sym (or_none (division_stop (Some m) t r c) (first_below (height t) (λ i. cond (nat_eq i r) None (row_stop (Some m) t r c i))) (sym e ∙ ap (in_row r) f))
+    g ∙ sym (or_none (whole_division_stop (Some m) t r c) (first_below (height t) (λ i. cond (nat_eq i r) None (whole_row_stop (Some m) t r c i))) (sym e ∙ ap (in_row r) f))

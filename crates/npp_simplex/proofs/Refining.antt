@@ -1,7 +1,7 @@
 -- The lexicographic comparison, key by key.
-use Rattle.std.proofs.Common.{◌≡◌, ℕ, suc, ◌+◌, ◌-◌, ◌<◌, ◌≤◌, List, [], ◌∷◌, length, take, slice_index, Option, Some, None, Result, Ok, Err, IfOk, IfErr, arith, ap, sym, ◌∙◌, refl, subst}
+use Rattle.std.proofs.Common.{◌≡◌, ℕ, suc, ◌+◌, ◌-◌, ◌<◌, ◌≤◌, List, [], ◌∷◌, ◌++◌, length, take, drop, slice_index, Option, Some, None, Result, Ok, Err, IfOk, IfErr, arith, ap, sym, ◌∙◌, refl, subst}
 use Rattle.std.specs.List.{range_with_len, list_all}
-use Rattle.std.proofs.lemmas.List.{get_or-take, length-take-le}
+use Rattle.std.proofs.lemmas.List.{get_or-take, length-take-le, take-append-le, length-append}
 use Rattle.std.proofs.lemmas.List.Elements.{All-filter}
 use Rattle.std.specs.Prelude.{not}
 use Rattle.npp_frac.specs.Rational.{Rational, is_less}
@@ -73,13 +73,15 @@ module _ (limit : Option ℕ) (s : Stage) (t : Tableau) (c : ℕ) where
   pub begins : (keys xs : List ℕ) (n : ℕ) → 0 < n → n ≤ length xs → AreCandidates t c (take n xs) → StandsAt keys (take n xs) keys xs n
   begins keys xs n some within h = record { some = some; within = within; candidates = h; rest = refl; stop = refl }
 
-  pub more_keys : (keys rows ks xs ys : List ℕ) (k n m : ℕ) → StandsAt keys rows (k ∷ ks) xs n → 2 ≤ n → 0 < m → m ≤ n → length ys ≡ length xs
-      → take m ys ≡ least_rows (compared s t c k) (take n xs) → quotients_stop limit s t c k (take n xs) ≡ None → StandsAt keys rows ks ys m
-  more_keys keys rows ks xs ys k n m h two some within long is fits =
+  -- the rows are compared at one more key: zs is the front of the list then
+  pub more_keys : (keys rows ks xs zs : List ℕ) (k n m : ℕ) → StandsAt keys rows (k ∷ ks) xs n → 2 ≤ n → 0 < m → m ≤ length (take n xs) → length zs ≡ length (take n xs)
+      → take m zs ≡ least_rows (compared s t c k) (take n xs) → quotients_stop limit s t c k (take n xs) ≡ None → StandsAt keys rows ks (zs ++ drop n xs) m
+  more_keys keys rows ks xs zs k n m h two some within long front fits =
       let size : 2 ≤ length (take n xs) = rw (length-take-le n xs h.within) two in
+      let is : take m (zs ++ drop n xs) ≡ least_rows (compared s t c k) (take n xs) = take-append-le m zs (drop n xs) (omega arith) ∙ front in
       record {
         some = some;
-        within = omega (arith, h.within);
+        within = omega (arith, length-append zs (drop n xs));
         candidates = subst (AreCandidates t c) (sym is) (All-filter (λ i. list_all (λ j. not (is_less (compared s t c k j) (compared s t c k i))) (take n xs)) (IsCandidate t c) (take n xs) h.candidates);
         rest = ap (refined (compared s t c) ks) is ∙ sym (refined_step (compared s t c) k ks (take n xs) size) ∙ h.rest;
         stop = ap (ratio_stop limit s t c ks) is

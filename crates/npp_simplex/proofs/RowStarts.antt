@@ -59,7 +59,7 @@ module _ (p : LinearProgram) where
   entry_is : has_phase_one p ≡ true → extra_entry p ≡ negative one_ℚ
   entry_is h = rw h refl
 
-  entry_none : has_phase_one p ≡ false → extra_entry p ≡ zero_ℚ
+  pub entry_none : has_phase_one p ≡ false → extra_entry p ≡ zero_ℚ
   entry_none h = rw h refl
 
   -- the slack of row k has 1 in row k alone
@@ -97,7 +97,7 @@ module _ (p : LinearProgram) where
   first_extra_goal h j l = first_goal_one j ∙ ap (λ t. unit (p.columns + length p.rows) t j) (entry_is h)
 
   -- where phase one does not stand, the extra column is 0
-  none_extra : has_phase_one p ≡ false → (i : ℕ) → i < length p.rows + 2 → first_cell p i (p.columns + length p.rows) ≡ zero_ℚ
+  pub none_extra : has_phase_one p ≡ false → (i : ℕ) → i < length p.rows + 2 → first_cell p i (p.columns + length p.rows) ≡ zero_ℚ
   none_extra h i l = elim (cases_lt i (length p.rows)) [
     | inl inside ↦ first_extra i inside ∙ entry_none h
     | inr outside ↦ elim (cases_eq i (length p.rows)) [

@@ -15,8 +15,8 @@ use Rattle.npp_lp.specs.Duals.{coefficient}
 use Rattle.npp_lp.specs.Meaning.{term_of, terms_of, rows_of, linear_program, IsProgram}
 use Rattle.npp_simplex.specs.declared.shape.Shape.{Shape}
 use Rattle.npp_simplex.specs.Tableau.{cell, table}
-use Rattle.npp_simplex.specs.Run.{has_phase_one, extra_entry, first_cell, first_tableau, first_stage}
-use Rattle.npp_simplex.specs.Meaning.{tableau_of, cell_count, CanEnter}
+use Rattle.npp_simplex.specs.Run.{has_phase_one, extra_entry, first_cell, first_tableau}
+use Rattle.npp_simplex.specs.Meaning.{tableau_of, cell_count}
 use Rattle.npp_simplex.proofs.Tables.{table_same, table_cell, at_read}
 use Rattle.npp_simplex.proofs.Reading.{cell_at}
 use Rattle.npp_simplex.proofs.Clearing.{cell_written}
@@ -193,7 +193,7 @@ pub one_apart : negative one_ℚ ≢ zero_ℚ
 unfolding whole ratio gcd gcd_within negative
 one_apart e = let num : negsuc 0 ≡ pos 0 = ap (λ q. q.num) e in cc
 
-extra_apart : (p : LinearProgram) → true ≡ has_phase_one p → (i : ℕ) → i < length p.rows → cell (first_tableau p) i (p.columns + length p.rows) ≢ zero_ℚ
+pub extra_apart : (p : LinearProgram) → true ≡ has_phase_one p → (i : ℕ) → i < length p.rows → cell (first_tableau p) i (p.columns + length p.rows) ≢ zero_ℚ
 extra_apart p e i l =
     let inside : nat_lt i (length p.rows) ≡ true = lt_true i (length p.rows) l in
     let no : nat_lt (p.columns + length p.rows) p.columns ≡ false = lt_false (p.columns + length p.rows) p.columns (omega arith) in
@@ -202,7 +202,3 @@ extra_apart p e i l =
     let value : cell (first_tableau p) i (p.columns + length p.rows) ≡ negative one_ℚ =
     table_cell (length p.rows + 2) (p.columns + length p.rows + 2) (first_cell p) i (p.columns + length p.rows) (omega arith) (omega arith) ∙ rw (inside, no, none, here) (ap (λ b. cond b (negative one_ℚ) zero_ℚ) (sym e)) in
     λ f. one_apart (sym value ∙ f)
-
-pub can_begin : (p : LinearProgram) (b : Bool) → b ≡ has_phase_one p → CanEnter (first_stage b) (first_tableau p)
-can_begin p false e = tt
-can_begin p true e = extra_apart p e

@@ -1,5 +1,5 @@
 -- One turn of a run.
-use Rattle.std.proofs.Common.{◌≡◌, ◌≢◌, ℕ, suc, ◌+◌, ◌<◌, List, [], ◌∷◌, length, slice_index, slice_index_or, Bool, true, false, cond, nat_eq, Option, Some, None, IfSome, All, arith, ap, ap₂, sym, ◌∙◌, refl, subst}
+use Rattle.std.proofs.Common.{◌≡◌, ◌≢◌, ℕ, suc, ◌+◌, ◌<◌, List, [], ◌∷◌, length, slice_index, slice_index_or, Bool, Option, Some, None, IfSome, All, arith, ap, ap₂, sym, ◌∙◌, refl, subst}
 use Rattle.std.specs.Prelude.{slice_set}
 use Rattle.std.specs.List.{range_with_len}
 use Rattle.std.proofs.lemmas.List.Elements.{All-filter, filter_passes}
@@ -13,8 +13,8 @@ use Rattle.npp_simplex.specs.declared.place.Place.{Place}
 use Rattle.npp_simplex.specs.Tableau.{Tableau, cell, extra_column, pivoted}
 use Rattle.npp_simplex.specs.Ratio.{entering, candidates, positive_rows, compared, keys, refined, leaving}
 use Rattle.npp_simplex.specs.Places.{ratio_stop, pivot_stop, first_stop}
-use Rattle.npp_simplex.specs.Run.{State, Next, PivotOn, NoColumn, NoRow, chosen_row, chosen_column, next, stage_when_leaves, stage_after, handed_on, state_after, Overflow, stepped, turned, finished, run_from}
-use Rattle.npp_simplex.specs.Meaning.{AreCandidates, CanEnter}
+use Rattle.npp_simplex.specs.Run.{State, Next, PivotOn, NoColumn, NoRow, chosen_row, chosen_column, next, stage_after, handed_on, state_after, Overflow, stepped, turned, finished, run_from}
+use Rattle.npp_simplex.specs.Meaning.{AreCandidates, IsReadyFor}
 use Rattle.npp_simplex.proofs.Refining.{or_else_none, or_else_some}
 
 pub some_more : (o : Option ℕ) (n : ℕ) → IfSome o (λ j. j < n) → IfSome o (λ j. j < n + 1)
@@ -38,7 +38,7 @@ positive_are t c k d l =
       entry = not-zero_of_pos (is_less_yes zero_ℚ (cell t (slice_index_or (positive_rows t c) k d) c) (filter_passes p (range_with_len 0 t.rows) k d l));
     }
 
-pub candidates_are : (s : Stage) (t : Tableau) (c : ℕ) → CanEnter s t → entering s t ≡ Some c → AreCandidates t c (candidates s t c)
+pub candidates_are : (s : Stage) (t : Tableau) (c : ℕ) → IsReadyFor s t → entering s t ≡ Some c → AreCandidates t c (candidates s t c)
 candidates_are Entry t c h e k d l =
     let size : length (range_with_len 0 t.rows) ≡ t.rows = length-range_with_len 0 t.rows in
     let inside : k < t.rows = omega arith in
@@ -47,20 +47,6 @@ candidates_are Entry t c h e k d l =
     rw here (record { row = inside; entry = subst (λ j. cell t k j ≢ zero_ℚ) column (h k inside) })
 candidates_are PhaseOne t c h e k d l = positive_are t c k d l
 candidates_are PhaseTwo t c h e k d l = positive_are t c k d l
-
--- ---- the stage that follows
-
-can_enter_by : (b : Bool) (t : Tableau) → CanEnter (cond b PhaseTwo PhaseOne) t
-can_enter_by true t = tt
-can_enter_by false t = tt
-
-can_enter : (s : Stage) (e l : ℕ) (t : Tableau) → CanEnter (stage_when_leaves s e l) t
-can_enter Entry e l t = tt
-can_enter PhaseOne e l t = can_enter_by (nat_eq l e) t
-can_enter PhaseTwo e l t = tt
-
-pub can_enter_after : (n s : Stage) (e l : ℕ) (t : Tableau) → n ≡ stage_when_leaves s e l → CanEnter n t
-can_enter_after n s e l t same = subst (λ z. CanEnter z t) (sym same) (can_enter s e l t)
 
 -- ---- one pivot
 
@@ -74,11 +60,11 @@ pub leaves : (s : Stage) (t : Tableau) (c r : ℕ) (rows : List ℕ) → rows �
 leaves s t c r rows e f = f ∙ ap (λ l. slice_index (refined (compared s t c) (keys t) l) 0) e
 
 pub stop_in_ratio : (limit : Option ℕ) (s : Stage) (t : Tableau) (c r : ℕ) (rows : List ℕ) (p : Place) → rows ≡ candidates s t c → ratio_stop limit s t c (keys t) rows ≡ Some p → first_stop limit s t r c ≡ Some p
-stop_in_ratio limit s t c r rows p e f = or_else_some (ratio_stop limit s t c (keys t) (candidates s t c)) (pivot_stop limit t r c) p (ap (ratio_stop limit s t c (keys t)) (sym e) ∙ f)
+stop_in_ratio limit s t c r rows p e f = or_else_some (ratio_stop limit s t c (keys t) (candidates s t c)) (pivot_stop limit s t r c) p (ap (ratio_stop limit s t c (keys t)) (sym e) ∙ f)
 
-pub stop_in_pivot : (limit : Option ℕ) (s : Stage) (t : Tableau) (c r q : ℕ) (rows : List ℕ) (o : Option Place) → rows ≡ candidates s t c → ratio_stop limit s t c (keys t) rows ≡ None → o ≡ pivot_stop limit t q c → q ≡ r → first_stop limit s t r c ≡ o
+pub stop_in_pivot : (limit : Option ℕ) (s : Stage) (t : Tableau) (c r q : ℕ) (rows : List ℕ) (o : Option Place) → rows ≡ candidates s t c → ratio_stop limit s t c (keys t) rows ≡ None → o ≡ pivot_stop limit s t q c → q ≡ r → first_stop limit s t r c ≡ o
 stop_in_pivot limit s t c r q rows o e f g same =
-    or_else_none (ratio_stop limit s t c (keys t) (candidates s t c)) (pivot_stop limit t r c) (ap (ratio_stop limit s t c (keys t)) (sym e) ∙ f) ∙ ap (λ z. pivot_stop limit t z c) (sym same) ∙ sym g
+    or_else_none (ratio_stop limit s t c (keys t) (candidates s t c)) (pivot_stop limit s t r c) (ap (ratio_stop limit s t c (keys t)) (sym e) ∙ f) ∙ ap (λ z. pivot_stop limit s t z c) (sym same) ∙ sym g
 
 -- ---- one turn
 

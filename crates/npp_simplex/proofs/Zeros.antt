@@ -76,6 +76,11 @@ FitsAdd-zero m q h =
 pub wide_enough : (w : ℕ) → IsWidth w → 1 < limit_of w
 wide_enough w h = lt_of_lt_of_le (lit< tt) (limit_at_least w h)
 
+pub FitsBelow-zero : (w : ℕ) → IsWidth w → FitsBelow (limit_of w) zero_ℚ
+FitsBelow-zero w h =
+    let wide = wide_enough w h in
+    record { num = rw (ap nat_abs zero_num) (omega (arith, wide)); den = rw zero_den wide }
+
 -- the negative of a number of the width
 abs_negative : (n : ℤ) → nat_abs (neg_ℤ n) ≡ nat_abs n
 abs_negative n = omega (arith, ints)

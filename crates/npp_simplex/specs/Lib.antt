@@ -5,6 +5,8 @@ pub mod Steps
 pub mod Vectors
 pub mod Run
 pub mod Meaning
+pub mod Workspace
 pub mod Proved
 pub mod Bases
+pub mod PhaseTwo
 pub mod Examples

@@ -24,11 +24,17 @@ tableau_of value s cells = record {
 abbrev pub state_of : {N : Type 0} → (N → Rational) → Shape → Stage → List N → List ℕ → State
 state_of value s stage cells basis = record { stage = stage; tableau = tableau_of value s cells; basis = basis }
 
--- phase one can begin: the extra column has no 0 in a row of the program
-abbrev pub CanEnter : Stage → Tableau → Type 0
-CanEnter Entry t = (i : ℕ) → i < t.rows → cell t i (extra_column t) ≢ zero_ℚ
-CanEnter PhaseOne t = ⊤
-CanEnter PhaseTwo t = ⊤
+-- the goal row of phase one and the extra column hold 0
+pub record HasNoExtra (t : Tableau) : Type 0 where
+  pub row : (j : ℕ) → cell t t.rows j ≡ zero_ℚ
+  pub column : (i : ℕ) → cell t i (extra_column t) ≡ zero_ℚ
+
+-- what a stage needs of its table: that the extra column can enter in each row of the program, and that what phase two
+-- has not holds 0
+abbrev pub IsReadyFor : Stage → Tableau → Type 0
+IsReadyFor Entry t = (i : ℕ) → i < t.rows → cell t i (extra_column t) ≢ zero_ℚ
+IsReadyFor PhaseOne t = ⊤
+IsReadyFor PhaseTwo t = HasNoExtra t
 
 -- the outcome of a run that ends so with a tableau and a basis
 abbrev pub ended : End → Tableau → List ℕ → Outcome

@@ -1,5 +1,5 @@
 -- The first place of a pivot at which a number does not fit a width. With no limit every number fits.
-use Rattle.std.specs.Prelude.{ℕ, List, [], ◌∷◌, length, slice_index, Bool, true, ◌&&◌, Option, Some, None, nat_eq, if◌then◌else◌}
+use Rattle.std.specs.Prelude.{ℕ, List, [], ◌∷◌, length, slice_index, Bool, true, not, ◌&&◌, Option, Some, None, nat_eq, if◌then◌else◌}
 use Rattle.npp_frac.specs.Rational.{Rational, ◌*ℚ◌}
 use Rattle.npp_frac.specs.Fits.{fits_sub, fits_mul, fits_div}
 use Rattle.npp_lp.specs.Verdict.{or_else, first_below}
@@ -7,8 +7,20 @@ use Rattle.npp_simplex.specs.declared.place.Place.{Place}
 use Rattle.npp_simplex.specs.declared.answer.Step.TheVariants.{Ratio, Pivot}
 use Rattle.npp_simplex.specs.declared.stage.Stage.{Stage}
 use Rattle.npp_simplex.specs.declared.stage.Stage.TheVariants.{Entry, PhaseOne, PhaseTwo}
-use Rattle.npp_simplex.specs.Tableau.{Tableau, cell, divided_cell, width, height}
+use Rattle.npp_simplex.specs.Tableau.{Tableau, extra_column, cell, divided_cell, width, height}
 use Rattle.npp_simplex.specs.Ratio.{candidates, compared, keys, least_rows}
+
+-- whether a stage has a row: phase two has no goal row of phase one
+abbrev pub has_row : Stage → Tableau → ℕ → Bool
+has_row Entry t i = true
+has_row PhaseOne t i = true
+has_row PhaseTwo t i = not (nat_eq i t.rows)
+
+-- whether a stage has a column: phase two has no extra column
+abbrev pub has_column : Stage → Tableau → ℕ → Bool
+has_column Entry t j = true
+has_column PhaseOne t j = true
+has_column PhaseTwo t j = not (nat_eq j (extra_column t))
 
 -- whether a test of size holds at the limit
 abbrev pub fits_at : Option ℕ → (ℕ → Bool) → Bool
@@ -56,22 +68,25 @@ abbrev pub in_row : ℕ → Option ℕ → Option Place
 in_row i None = None
 in_row i (Some j) = Some (record { step = Pivot; row = i; column = j })
 
+-- the first column of the stage in which a number does not fit
+abbrev pub first_column : Stage → Tableau → (ℕ → Bool) → Option ℕ
+first_column s t fits = first_below (width t) (λ j. if has_column s t j then column_unless (fits j) j else None)
+
 -- where row r is divided by its entry in column c
-abbrev pub division_stop : Option ℕ → Tableau → ℕ → ℕ → Option Place
-division_stop limit t r c =
-    in_row r (first_below (width t) (λ j. column_unless (fits_at limit (λ m. fits_div m (cell t r j) (cell t r c))) j))
+abbrev pub division_stop : Option ℕ → Stage → Tableau → ℕ → ℕ → Option Place
+division_stop limit s t r c = in_row r (first_column s t (λ j. fits_at limit (λ m. fits_div m (cell t r j) (cell t r c))))
 
 -- where row i loses its multiple of the divided row
-abbrev pub row_stop : Option ℕ → Tableau → ℕ → ℕ → ℕ → Option Place
-row_stop limit t r c i =
-    in_row i (first_below (width t) (λ j. column_unless (fits_at limit (λ m. fits_less_product m (cell t i j) (cell t i c) (divided_cell t r c j))) j))
+abbrev pub row_stop : Option ℕ → Stage → Tableau → ℕ → ℕ → ℕ → Option Place
+row_stop limit s t r c i =
+    in_row i (first_column s t (λ j. fits_at limit (λ m. fits_less_product m (cell t i j) (cell t i c) (divided_cell t r c j))))
 
--- in a replacement: row r first, and then the other rows in order
-abbrev pub pivot_stop : Option ℕ → Tableau → ℕ → ℕ → Option Place
-pivot_stop limit t r c =
-    or_else (division_stop limit t r c)
-    (first_below (height t) (λ i. if nat_eq i r then None else row_stop limit t r c i))
+-- in a replacement: row r first, and then the other rows of the stage in order
+abbrev pub pivot_stop : Option ℕ → Stage → Tableau → ℕ → ℕ → Option Place
+pivot_stop limit s t r c =
+    or_else (division_stop limit s t r c)
+    (first_below (height t) (λ i. if has_row s t i && not (nat_eq i r) then row_stop limit s t r c i else None))
 
 -- in a whole pivot: its ratio test, and then its replacement
 abbrev pub first_stop : Option ℕ → Stage → Tableau → ℕ → ℕ → Option Place
-first_stop limit s t r c = or_else (ratio_stop limit s t c (keys t) (candidates s t c)) (pivot_stop limit t r c)
+first_stop limit s t r c = or_else (ratio_stop limit s t c (keys t) (candidates s t c)) (pivot_stop limit s t r c)

@@ -7,8 +7,9 @@ use Rattle.npp_lp.specs.Programs.{at}
 -- The columns are those of the program, then a slack column for each row, then the extra column of phase one, then the
 -- right side. The rows are those of the program, then the goal row of phase one, then the goal row of phase two.
 -- A goal row holds reduced costs, and its right side is the negative of the value.
--- Phase two has no extra column and no goal row of phase one: these hold 0 there. What a pivot or a ratio test
--- makes of zeros is 0 and fits every width, so the other cells and the first place that does not fit are as if they were absent.
+-- Phase two, and a program where no phase one stands, has no extra column and no goal row of phase one. The other rows and
+-- columns keep their numbers, and what a table holds there (0) is read by no part of the run: by no choice of a column or a
+-- row, no test of size, no other cell, and nothing that is read off the last table. `PhaseTwo` states it.
 pub record Tableau : Type 0 where
   -- how many rows and columns the program has
   pub rows : ℕ

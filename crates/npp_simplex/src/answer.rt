@@ -1,4 +1,4 @@
-// What a run of the simplex answers.
+//! What a run of the simplex answers.
 
 /// The two steps of a pivot.
 #[derive(Clone, Copy, PartialEq, Eq, Debug)]

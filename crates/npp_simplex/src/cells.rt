@@ -1,4 +1,4 @@
-// Reading a tableau: the column that enters, and the rows that may leave.
+//! Reading a tableau: the column that enters, and the rows that may leave.
 
 ghost use Rattle.std.specs.Prelude.{◌≡◌, ◌+◌, ◌<◌, ◌≤◌, ◌^◌, length, take, IfSome};
 ghost use Rattle.std.specs.List.{range_with_len};
@@ -6,10 +6,9 @@ ghost use Rattle.npp_simplex.specs.Tableau.{cell as cell_of};
 ghost use Rattle.npp_simplex.specs.Ratio.{rising_column as rising_column_of, entering as entering_of, positive_rows as positive_rows_of, candidates as candidates_of};
 ghost use Rattle.npp_simplex.specs.Meaning.{tableau_of, cell_count};
 
-use crate::numbers::is_positive;
 use crate::shape::Shape;
 use crate::stage::Stage;
-use npp_frac::Exact;
+use npp_frac::{Exact, is_positive};
 
 /// The number in a row and a column.
 pub fn cell<N: Exact>(shape: Shape, cells: &[N], row: usize, column: usize) -> N

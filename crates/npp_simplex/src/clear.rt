@@ -1,4 +1,4 @@
-// The end of phase one.
+//! The end of phase one.
 
 ghost use Rattle.std.specs.Prelude.{◌≡◌, ℕ, ◌+◌, ◌<◌, length, map};
 ghost use Rattle.npp_frac.specs.Rational.{zero_ℚ};

@@ -1,4 +1,4 @@
-// How the pivots of a run end.
+//! How the pivots of a run end.
 
 use crate::place::Place;
 use crate::stage::Stage;

@@ -1,4 +1,4 @@
-// The first tableau of a program.
+//! The first tableau of a program.
 
 ghost use Rattle.std.specs.Prelude.{◌≡◌, ℕ, ◌+◌, ◌<◌, ◌≤◌, length, map, IfOk, if◌then◌else◌};
 ghost use Rattle.std.specs.List.{AllPairs, range_with_len, list_any};
@@ -9,9 +9,9 @@ ghost use Rattle.npp_simplex.specs.Tableau.{cell as cell_of};
 ghost use Rattle.npp_simplex.specs.Run.{has_phase_one, extra_entry as extra_entry_of, first_cell, first_tableau};
 ghost use Rattle.npp_simplex.specs.Meaning.{tableau_of, cell_count};
 
-use crate::numbers::{is_negative, minus_one, one, zero};
+use crate::numbers::{minus_one, one, zero};
 use crate::shape::Shape;
-use npp_frac::{Exact, Memory};
+use npp_frac::{Exact, Memory, is_negative};
 use npp_lp::{Entry, Program};
 use std::alloc::Global;
 

@@ -17,6 +17,7 @@ mod stage;
 #[cfg(test)]
 mod tests;
 mod vectors;
+mod workspace;
 
 pub use answer::{Answer, Step};
 pub use solver::solve;

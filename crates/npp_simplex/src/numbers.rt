@@ -1,10 +1,10 @@
-// Single numbers.
+//! Single numbers.
 
-ghost use Rattle.std.specs.Prelude.{◌≡◌, ◌≢◌, ◌↔◌, ◌⊎◌, IsTrue, is_some, IfSome};
-ghost use Rattle.npp_frac.specs.Rational.{zero_ℚ, one_ℚ, is_less, negative, ◌≤ℚ◌, ◌/ℚ◌};
+ghost use Rattle.std.specs.Prelude.{◌≡◌, ◌≢◌, ◌⊎◌, is_some, IfSome};
+ghost use Rattle.npp_frac.specs.Rational.{zero_ℚ, one_ℚ, negative, ◌≤ℚ◌, ◌/ℚ◌};
 ghost use Rattle.npp_frac.specs.Fits.{limit_of, fits_div};
 
-use npp_frac::Exact;
+use npp_frac::{Exact, is_below, is_zero};
 
 /// The number 0.
 pub fn zero<N: Exact>() -> N
@@ -25,34 +25,6 @@ pub fn minus_one<N: Exact>() -> N
     ensures { N.rational result ≡ negative one_ℚ }
 {
     N::of_whole(-1)
-}
-
-/// Whether the number is 0.
-pub fn is_zero<N: Exact>(number: N) -> bool
-    ensures { IsTrue result ↔ (N.rational number ≡ zero_ℚ) }
-{
-    number.num() == 0
-}
-
-/// Whether the number is below 0.
-pub fn is_negative<N: Exact>(number: N) -> bool
-    ensures { result ≡ is_less (N.rational number) zero_ℚ }
-{
-    number.num() < 0
-}
-
-/// Whether the number is above 0.
-pub fn is_positive<N: Exact>(number: N) -> bool
-    ensures { result ≡ is_less zero_ℚ (N.rational number) }
-{
-    number.num() > 0
-}
-
-/// Whether the first number is below the second.
-pub fn is_below<N: Exact>(first: N, second: N) -> bool
-    ensures { result ≡ is_less (N.rational first) (N.rational second) }
-{
-    first.cmp(second).is_lt()
 }
 
 /// The negative of a number.

@@ -1,4 +1,4 @@
-// Where in a pivot a number stands.
+//! Where in a pivot a number stands.
 
 use crate::answer::Step;
 

@@ -1,4 +1,4 @@
-// The ratio test: the lexicographic choice of the row that leaves the basis.
+//! The ratio test: the lexicographic choice of the row that leaves the basis.
 
 ghost use Rattle.std.specs.Prelude.{◌≡◌, ◌≢◌, ℕ, ◌+◌, ◌<◌, ◌≤◌, ◌^◌, length, take, Some, None, is_some, IfSome, IfNone, IfOk, IfErr, map, slice_index};
 ghost use Rattle.std.specs.List.{range_with_len};
@@ -12,59 +12,55 @@ ghost use Rattle.npp_simplex.specs.Meaning.{tableau_of, cell_count, IsCandidate,
 
 use crate::answer::Step;
 use crate::cells::cell;
-use crate::numbers::{is_below, lesser, quotient};
+use crate::numbers::{lesser, quotient};
 use crate::place::Place;
 use crate::shape::Shape;
-use crate::stage::Stage;
-use npp_frac::Exact;
+use crate::stage::{EnteringColumn, Stage};
+use npp_frac::{Exact, is_below};
 
 /// What a row is compared by at a key, or None where it does not fit.
 pub fn compared<N: Exact>(
     shape: Shape,
     cells: &[N],
-    stage: Stage,
-    column: usize,
+    entering: EnteringColumn,
     key: usize,
     row: usize,
 ) -> Option<N>
     requires whole { length cells.now ≡ cell_count shape }
-    requires column { column < shape.columns + shape.rows + 2 }
+    requires column { entering.column < shape.columns + shape.rows + 2 }
     requires key { key < shape.columns + shape.rows + 2 }
-    requires row { IsCandidate (tableau_of N.rational shape cells.now) column row }
-    ensures fits { is_some result ≡ quotient_fits (Some (limit_of N.WIDTH)) stage (tableau_of N.rational shape cells.now) column key row }
-    ensures exact { IfSome result (λ q. N.rational q ≡ compared_of stage (tableau_of N.rational shape cells.now) column key row) }
+    requires row { IsCandidate (tableau_of N.rational shape cells.now) entering.column row }
+    ensures fits { is_some result ≡ quotient_fits (Some (limit_of N.WIDTH)) entering.stage (tableau_of N.rational shape cells.now) entering.column key row }
+    ensures exact { IfSome result (λ q. N.rational q ≡ compared_of entering.stage (tableau_of N.rational shape cells.now) entering.column key row) }
 {
     let entry = cell(shape, cells, row, key);
-    match stage {
+    match entering.stage {
         Stage::Entry => Some(entry),
-        Stage::PhaseOne => quotient(entry, cell(shape, cells, row, column)),
-        Stage::PhaseTwo => quotient(entry, cell(shape, cells, row, column)),
+        Stage::PhaseOne => quotient(entry, cell(shape, cells, row, entering.column)),
+        Stage::PhaseTwo => quotient(entry, cell(shape, cells, row, entering.column)),
     }
 }
 
-/// Writes what each of the first candidates is compared by at a key into a list, up to the first that does
+/// Writes what each candidate is compared by at a key into a list, up to the first that does
 /// not fit, whose place it answers.
 pub fn compare_all<N: Exact>(
     shape: Shape,
     cells: &[N],
-    stage: Stage,
-    column: usize,
+    entering: EnteringColumn,
     key: usize,
     candidates: &[u32],
-    count: usize,
     numbers: &mut [N],
 ) -> Option<Place>
     requires whole { length cells.now ≡ cell_count shape }
-    requires column { column < shape.columns + shape.rows + 2 }
+    requires column { entering.column < shape.columns + shape.rows + 2 }
     requires key { key < shape.columns + shape.rows + 2 }
-    requires count { count ≤ length candidates.now }
-    requires room { count ≤ length numbers.old }
-    requires rows { AreCandidates (tableau_of N.rational shape cells.now) column (take count candidates.now) }
-    ensures stop { result ≡ quotients_stop (Some (limit_of N.WIDTH)) stage (tableau_of N.rational shape cells.now) column key (take count candidates.now) }
-    ensures numbers { IfNone result ((k : ℕ) → k < count → at (map N.rational numbers.new) k ≡ compared_of stage (tableau_of N.rational shape cells.now) column key (slice_index candidates.now k)) }
+    requires room { length candidates.now ≤ length numbers.old }
+    requires rows { AreCandidates (tableau_of N.rational shape cells.now) entering.column candidates.now }
+    ensures stop { result ≡ quotients_stop (Some (limit_of N.WIDTH)) entering.stage (tableau_of N.rational shape cells.now) entering.column key candidates.now }
+    ensures numbers { IfNone result ((k : ℕ) → k < length candidates.now → at (map N.rational numbers.new) k ≡ compared_of entering.stage (tableau_of N.rational shape cells.now) entering.column key (slice_index candidates.now k)) }
 {
-    for s in 0..count {
-        match compared(shape, cells, stage, column, key, candidates[s] as usize) {
+    for s in 0..candidates.len() {
+        match compared(shape, cells, entering, key, candidates[s] as usize) {
             Some(number) => numbers[s] = number,
             None => {
                 return Some(Place {
@@ -108,31 +104,29 @@ pub fn keep<N: Exact>(candidates: &mut [u32], count: usize, numbers: &[N], best:
     kept
 }
 
-/// Keeps those of the first candidates that are least at a key, and tells how many they are, or the place that does not fit.
+/// Keeps those of the candidates that are least at a key, and tells how many they are, or the place that does not fit.
 pub fn refine_at<N: Exact>(
     shape: Shape,
     cells: &[N],
-    stage: Stage,
-    column: usize,
+    entering: EnteringColumn,
     key: usize,
     candidates: &mut [u32],
-    count: usize,
     numbers: &mut [N],
 ) -> Result<usize, Place>
     requires whole { length cells.now ≡ cell_count shape }
-    requires column { column < shape.columns + shape.rows + 2 }
+    requires column { entering.column < shape.columns + shape.rows + 2 }
     requires key { key < shape.columns + shape.rows + 2 }
-    requires some { 0 < count }
-    requires count { count ≤ length candidates.old }
+    requires some { 0 < length candidates.old }
     requires room { length candidates.old ≤ length numbers.old }
-    requires rows { AreCandidates (tableau_of N.rational shape cells.now) column (take count candidates.old) }
-    ensures stop { IfErr result (λ place. quotients_stop (Some (limit_of N.WIDTH)) stage (tableau_of N.rational shape cells.now) column key (take count candidates.old) ≡ Some place) }
-    ensures fits { IfOk result (λ left. quotients_stop (Some (limit_of N.WIDTH)) stage (tableau_of N.rational shape cells.now) column key (take count candidates.old) ≡ None) }
-    ensures rows { IfOk result (λ left. take left candidates.new ≡ least_rows (compared_of stage (tableau_of N.rational shape cells.now) column key) (take count candidates.old)) }
+    requires rows { AreCandidates (tableau_of N.rational shape cells.now) entering.column candidates.old }
+    ensures stop { IfErr result (λ place. quotients_stop (Some (limit_of N.WIDTH)) entering.stage (tableau_of N.rational shape cells.now) entering.column key candidates.old ≡ Some place) }
+    ensures fits { IfOk result (λ left. quotients_stop (Some (limit_of N.WIDTH)) entering.stage (tableau_of N.rational shape cells.now) entering.column key candidates.old ≡ None) }
+    ensures rows { IfOk result (λ left. take left candidates.new ≡ least_rows (compared_of entering.stage (tableau_of N.rational shape cells.now) entering.column key) candidates.old) }
     ensures some { IfOk result (λ left. 0 < left) }
-    ensures within { IfOk result (λ left. left ≤ count) }
+    ensures within { IfOk result (λ left. left ≤ length candidates.old) }
 {
-    match compare_all(shape, cells, stage, column, key, candidates, count, numbers) {
+    let count = candidates.len();
+    match compare_all(shape, cells, entering, key, candidates, numbers) {
         Some(place) => Err(place),
         None => {
             let best = least(numbers, count);
@@ -145,29 +139,35 @@ pub fn refine_at<N: Exact>(
 pub fn refine_by_slacks<N: Exact>(
     shape: Shape,
     cells: &[N],
-    stage: Stage,
-    column: usize,
+    entering: EnteringColumn,
     candidates: &mut [u32],
     count: usize,
     numbers: &mut [N],
 ) -> Result<u32, Place>
     requires whole { length cells.now ≡ cell_count shape }
-    requires column { column < shape.columns + shape.rows + 2 }
+    requires column { entering.column < shape.columns + shape.rows + 2 }
     requires some { 0 < count }
     requires count { count ≤ length candidates.old }
     requires room { length candidates.old ≤ length numbers.old }
-    requires rows { AreCandidates (tableau_of N.rational shape cells.now) column (take count candidates.old) }
-    ensures stop { IfErr result (λ place. ratio_stop (Some (limit_of N.WIDTH)) stage (tableau_of N.rational shape cells.now) column (range_with_len shape.columns shape.rows) (take count candidates.old) ≡ Some place) }
-    ensures fits { IfOk result (λ row. ratio_stop (Some (limit_of N.WIDTH)) stage (tableau_of N.rational shape cells.now) column (range_with_len shape.columns shape.rows) (take count candidates.old) ≡ None) }
-    ensures row { IfOk result (λ row. row ≡ slice_index (refined (compared_of stage (tableau_of N.rational shape cells.now) column) (range_with_len shape.columns shape.rows) (take count candidates.old)) 0) }
-    ensures candidate { IfOk result (λ row. IsCandidate (tableau_of N.rational shape cells.now) column row) }
+    requires rows { AreCandidates (tableau_of N.rational shape cells.now) entering.column (take count candidates.old) }
+    ensures stop { IfErr result (λ place. ratio_stop (Some (limit_of N.WIDTH)) entering.stage (tableau_of N.rational shape cells.now) entering.column (range_with_len shape.columns shape.rows) (take count candidates.old) ≡ Some place) }
+    ensures fits { IfOk result (λ row. ratio_stop (Some (limit_of N.WIDTH)) entering.stage (tableau_of N.rational shape cells.now) entering.column (range_with_len shape.columns shape.rows) (take count candidates.old) ≡ None) }
+    ensures row { IfOk result (λ row. row ≡ slice_index (refined (compared_of entering.stage (tableau_of N.rational shape cells.now) entering.column) (range_with_len shape.columns shape.rows) (take count candidates.old)) 0) }
+    ensures candidate { IfOk result (λ row. IsCandidate (tableau_of N.rational shape cells.now) entering.column row) }
 {
     let mut left = count;
     for key in shape.columns..shape.extra() {
         if left < 2 {
             return Ok(candidates[0]);
         }
-        match refine_at(shape, cells, stage, column, key, candidates, left, numbers) {
+        match refine_at(
+            shape,
+            cells,
+            entering,
+            key,
+            &mut candidates[..left],
+            numbers,
+        ) {
             Ok(fewer) => left = fewer,
             Err(place) => return Err(place),
         }
@@ -179,22 +179,21 @@ pub fn refine_by_slacks<N: Exact>(
 pub fn leaving<N: Exact>(
     shape: Shape,
     cells: &[N],
-    stage: Stage,
-    column: usize,
+    entering: EnteringColumn,
     candidates: &mut [u32],
     count: usize,
     numbers: &mut [N],
 ) -> Result<u32, Place>
     requires whole { length cells.now ≡ cell_count shape }
-    requires column { column < shape.columns + shape.rows + 2 }
+    requires column { entering.column < shape.columns + shape.rows + 2 }
     requires some { 0 < count }
     requires count { count ≤ length candidates.old }
     requires room { length candidates.old ≤ length numbers.old }
-    requires rows { AreCandidates (tableau_of N.rational shape cells.now) column (take count candidates.old) }
-    ensures stop { IfErr result (λ place. ratio_stop (Some (limit_of N.WIDTH)) stage (tableau_of N.rational shape cells.now) column (keys (tableau_of N.rational shape cells.now)) (take count candidates.old) ≡ Some place) }
-    ensures fits { IfOk result (λ row. ratio_stop (Some (limit_of N.WIDTH)) stage (tableau_of N.rational shape cells.now) column (keys (tableau_of N.rational shape cells.now)) (take count candidates.old) ≡ None) }
-    ensures row { IfOk result (λ row. row ≡ slice_index (refined (compared_of stage (tableau_of N.rational shape cells.now) column) (keys (tableau_of N.rational shape cells.now)) (take count candidates.old)) 0) }
-    ensures candidate { IfOk result (λ row. IsCandidate (tableau_of N.rational shape cells.now) column row) }
+    requires rows { AreCandidates (tableau_of N.rational shape cells.now) entering.column (take count candidates.old) }
+    ensures stop { IfErr result (λ place. ratio_stop (Some (limit_of N.WIDTH)) entering.stage (tableau_of N.rational shape cells.now) entering.column (keys (tableau_of N.rational shape cells.now)) (take count candidates.old) ≡ Some place) }
+    ensures fits { IfOk result (λ row. ratio_stop (Some (limit_of N.WIDTH)) entering.stage (tableau_of N.rational shape cells.now) entering.column (keys (tableau_of N.rational shape cells.now)) (take count candidates.old) ≡ None) }
+    ensures row { IfOk result (λ row. row ≡ slice_index (refined (compared_of entering.stage (tableau_of N.rational shape cells.now) entering.column) (keys (tableau_of N.rational shape cells.now)) (take count candidates.old)) 0) }
+    ensures candidate { IfOk result (λ row. IsCandidate (tableau_of N.rational shape cells.now) entering.column row) }
 {
     if count < 2 {
         return Ok(candidates[0]);
@@ -202,14 +201,12 @@ pub fn leaving<N: Exact>(
     match refine_at(
         shape,
         cells,
-        stage,
-        column,
+        entering,
         shape.right(),
-        candidates,
-        count,
+        &mut candidates[..count],
         numbers,
     ) {
-        Ok(left) => refine_by_slacks(shape, cells, stage, column, candidates, left, numbers),
+        Ok(left) => refine_by_slacks(shape, cells, entering, candidates, left, numbers),
         Err(place) => Err(place),
     }
 }

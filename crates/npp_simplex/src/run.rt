@@ -1,11 +1,12 @@
-// The pivots of a run.
+//! The pivots of a run.
 
 ghost use Rattle.std.specs.Prelude.{◌≡◌, ℕ, suc, ◌+◌, ◌<◌, ◌≤◌, ◌^◌, length, take, Option, Some, None, List, IfOk, IfErr};
 ghost use Rattle.npp_frac.specs.Fits.{limit_of};
 ghost use Rattle.npp_simplex.specs.Ratio.{entering as entering_of, candidates as candidates_of, leaving as leaving_of};
 ghost use Rattle.npp_simplex.specs.Places.{first_stop};
 ghost use Rattle.npp_simplex.specs.Run.{run_from, state_after, stage_when_leaves};
-ghost use Rattle.npp_simplex.specs.Meaning.{tableau_of, state_of, cell_count, AreCandidates, CanEnter, EndsWithin, ended};
+ghost use Rattle.npp_simplex.specs.Workspace.{IsRoom};
+ghost use Rattle.npp_simplex.specs.Meaning.{tableau_of, state_of, cell_count, AreCandidates, IsReadyFor, EndsWithin, ended};
 
 use crate::cells::{candidates, entering};
 use crate::clear::drop_extra;
@@ -14,7 +15,8 @@ use crate::pivot::pivot;
 use crate::place::Place;
 use crate::ratio::leaving;
 use crate::shape::Shape;
-use crate::stage::Stage;
+use crate::stage::{EnteringColumn, Stage};
+use crate::workspace::Room;
 use npp_frac::Exact;
 
 /// The stage after a pivot in which a basic column leaves.
@@ -39,36 +41,36 @@ pub fn advance<N: Exact>(
     shape: Shape,
     cells: &mut [N],
     basis: &mut [u32],
-    stage: Stage,
-    column: usize,
-    list: &mut [u32],
+    entering: EnteringColumn,
     count: usize,
-    spare: &mut [N],
+    room: &mut Room<N>,
 ) -> Result<Stage, Place>
     requires whole { length cells.old ≡ cell_count shape }
-    requires column { column < shape.columns + shape.rows + 1 }
+    requires column { entering.column < shape.columns + shape.rows + 1 }
     requires basis { length basis.old ≡ shape.rows }
-    requires list { length list.old ≡ shape.rows }
-    requires spare { length spare.old ≡ shape.columns + shape.rows + 2 }
+    requires room { IsRoom shape room.old }
     requires some { 0 < count }
-    requires count { count ≤ length list.old }
-    requires rows { take count list.old ≡ candidates_of stage (tableau_of N.rational shape cells.old) column }
-    requires entry { AreCandidates (tableau_of N.rational shape cells.old) column (take count list.old) }
-    ensures stop { IfErr result (λ place. first_stop (Some (limit_of N.WIDTH)) stage (tableau_of N.rational shape cells.old) (leaving_of stage (tableau_of N.rational shape cells.old) column) column ≡ Some place) }
-    ensures fits { IfOk result (λ next. first_stop (Some (limit_of N.WIDTH)) stage (tableau_of N.rational shape cells.old) (leaving_of stage (tableau_of N.rational shape cells.old) column) column ≡ None) }
-    ensures state { IfOk result (λ next. state_of N.rational shape next cells.new basis.new ≡ state_after (state_of N.rational shape stage cells.old basis.old) (leaving_of stage (tableau_of N.rational shape cells.old) column) column) }
+    requires count { count ≤ shape.rows }
+    requires rows { take count room.old.candidates.items ≡ candidates_of entering.stage (tableau_of N.rational shape cells.old) entering.column }
+    requires entry { AreCandidates (tableau_of N.rational shape cells.old) entering.column (candidates_of entering.stage (tableau_of N.rational shape cells.old) entering.column) }
+    requires ready { IsReadyFor entering.stage (tableau_of N.rational shape cells.old) }
+    ensures room { IsRoom shape room.new }
+    ensures stop { IfErr result (λ place. first_stop (Some (limit_of N.WIDTH)) entering.stage (tableau_of N.rational shape cells.old) (leaving_of entering.stage (tableau_of N.rational shape cells.old) entering.column) entering.column ≡ Some place) }
+    ensures fits { IfOk result (λ next. first_stop (Some (limit_of N.WIDTH)) entering.stage (tableau_of N.rational shape cells.old) (leaving_of entering.stage (tableau_of N.rational shape cells.old) entering.column) entering.column ≡ None) }
+    ensures state { IfOk result (λ next. state_of N.rational shape next cells.new basis.new ≡ state_after (state_of N.rational shape entering.stage cells.old basis.old) (leaving_of entering.stage (tableau_of N.rational shape cells.old) entering.column) entering.column) }
 {
-    match leaving(shape, cells, stage, column, list, count, spare) {
-        Ok(row) => match pivot(shape, cells, row as usize, column, spare) {
-            Some(place) => Err(place),
-            None => {
-                let next = stage_after(shape, stage, basis[row as usize]);
-                basis[row as usize] = column as u32;
-                drop_extra(shape, cells, stage, next);
-                Ok(next)
-            }
-        },
-        Err(place) => Err(place),
+    let candidates = room.candidates.as_mut_slice();
+    let numbers = room.numbers.as_mut_slice();
+    let columns = room.columns.as_mut_slice();
+    let row = leaving(shape, cells, entering, candidates, count, numbers)? as usize;
+    match pivot(shape, cells, row, entering.column, numbers, columns) {
+        Some(place) => Err(place),
+        None => {
+            let next = stage_after(shape, entering.stage, basis[row]);
+            basis[row] = entering.column as u32;
+            drop_extra(shape, cells, entering.stage, next);
+            Ok(next)
+        }
     }
 }
 
@@ -79,24 +81,28 @@ pub fn turn<N: Exact>(
     basis: &mut [u32],
     stage: Stage,
     made: u32,
-    list: &mut [u32],
-    spare: &mut [N],
+    room: &mut Room<N>,
 ) -> Result<Stage, End>
     requires whole { length cells.old ≡ cell_count shape }
     requires basis { length basis.old ≡ shape.rows }
-    requires list { length list.old ≡ shape.rows }
-    requires spare { length spare.old ≡ shape.columns + shape.rows + 2 }
+    requires room { IsRoom shape room.old }
     requires made { made + 1 < 2 ^ 32 }
-    requires entry { CanEnter stage (tableau_of N.rational shape cells.old) }
+    requires ready { IsReadyFor stage (tableau_of N.rational shape cells.old) }
     ensures goes_on { IfOk result (λ next. (left : ℕ) → run_from (Some (limit_of N.WIDTH)) (suc left) made (state_of N.rational shape stage cells.old basis.old) ≡ run_from (Some (limit_of N.WIDTH)) left (made + 1) (state_of N.rational shape next cells.new basis.new)) }
-    ensures entry { IfOk result (λ next. CanEnter next (tableau_of N.rational shape cells.new)) }
+    ensures room { IsRoom shape room.new }
+    ensures ready { IfOk result (λ next. IsReadyFor next (tableau_of N.rational shape cells.new)) }
     ensures ends { IfErr result (λ end. (left : ℕ) → run_from (Some (limit_of N.WIDTH)) (suc left) made (state_of N.rational shape stage cells.old basis.old) ≡ ended end (tableau_of N.rational shape cells.new) basis.new) }
     ensures within { IfErr result (λ end. EndsWithin (shape.columns + shape.rows + 1) end) }
 {
     match entering(shape, cells, stage) {
         None => Err(End::NoColumn { stage, made }),
         Some(column) => {
-            let count = candidates(shape, cells, stage, column as usize, list);
+            let entering = EnteringColumn {
+                stage,
+                column: column as usize,
+            };
+            let list = room.candidates.as_mut_slice();
+            let count = candidates(shape, cells, stage, entering.column, list);
             if count == 0 {
                 return Err(End::NoRow {
                     stage,
@@ -104,16 +110,7 @@ pub fn turn<N: Exact>(
                     made,
                 });
             }
-            match advance(
-                shape,
-                cells,
-                basis,
-                stage,
-                column as usize,
-                list,
-                count,
-                spare,
-            ) {
+            match advance(shape, cells, basis, entering, count, room) {
                 Ok(next) => Ok(next),
                 Err(place) => Err(End::Overflow {
                     pivot: made + 1,
@@ -160,23 +157,21 @@ pub fn work<N: Exact>(
     basis: &mut [u32],
     first: Stage,
     cap: u32,
-    list: &mut [u32],
-    spare: &mut [N],
+    room: &mut Room<N>,
 ) -> End
     requires whole { length cells.old ≡ cell_count shape }
     requires basis { length basis.old ≡ shape.rows }
-    requires list { length list.old ≡ shape.rows }
-    requires spare { length spare.old ≡ shape.columns + shape.rows + 2 }
-    requires entry { CanEnter first (tableau_of N.rational shape cells.old) }
+    requires room { IsRoom shape room.old }
+    requires ready { IsReadyFor first (tableau_of N.rational shape cells.old) }
     ensures within { EndsWithin (shape.columns + shape.rows + 1) result }
     ensures end { ended result (tableau_of N.rational shape cells.new) basis.new ≡ run_from (Some (limit_of N.WIDTH)) cap 0 (state_of N.rational shape first cells.old basis.old) }
 {
     let mut stage = first;
     for made in 0..cap {
-        match turn(shape, cells, basis, stage, made, list, spare) {
+        match turn(shape, cells, basis, stage, made, room) {
             Ok(next) => stage = next,
             Err(end) => return end,
         }
     }
-    last_look(shape, cells, stage, cap, list)
+    last_look(shape, cells, stage, cap, room.candidates.as_mut_slice())
 }

@@ -1,4 +1,4 @@
-// How a tableau lies in memory.
+//! How a tableau lies in memory.
 
 ghost use Rattle.std.specs.Prelude.{◌≡◌, ◌+◌, ◌*◌, ◌^◌, ◌<◌, ◌≤◌};
 

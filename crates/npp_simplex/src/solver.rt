@@ -1,24 +1,27 @@
-// The whole run on a program.
+//! The whole run on a program.
 
 ghost use Rattle.std.specs.Prelude.{◌≡◌, ℕ, ◌+◌, ◌<◌, length, Some, IfOk};
-ghost use Rattle.std.specs.List.{range_with_len};
 ghost use Rattle.npp_frac.specs.Fits.{limit_of};
 ghost use Rattle.npp_lp.specs.Meaning.{linear_program, IsProgram};
 ghost use Rattle.npp_simplex.specs.Run.{run, has_phase_one, first_stage as first_stage_of, Optimal, Infeasible, Unbounded};
 ghost use Rattle.npp_simplex.specs.Proved.{IsProved};
 ghost use Rattle.npp_simplex.specs.Bases.{bases, AreAllDifferent, basis_count, HasFewerPivots};
+ghost use Rattle.npp_simplex.specs.PhaseTwo.{AgreeWithoutExtra, HaveSameRuns};
+ghost use Rattle.npp_simplex.specs.Tableau.{Tableau};
 ghost use Rattle.npp_simplex.specs.Vectors.{point as point_of, multipliers as multipliers_of, value as value_of, ray as ray_of};
 ghost use Rattle.npp_simplex.specs.Meaning.{tableau_of, cell_count, outcome_of, ended, EndsWithin};
+ghost use Rattle.npp_simplex.specs.Workspace.{IsWorkspace};
 
 use crate::answer::Answer;
 use crate::cells::cell;
 use crate::end::End;
-use crate::first::{extra_entry, fill, first_basis, has_negative, zero_rows, zeros};
+use crate::first::{extra_entry, fill, has_negative};
 use crate::numbers::negated;
 use crate::run::work;
 use crate::shape::Shape;
 use crate::stage::Stage;
 use crate::vectors::{multipliers, point, ray};
+use crate::workspace::Workspace;
 use npp_frac::{Exact, Memory};
 use npp_lp::Program;
 use std::alloc::Global;
@@ -127,33 +130,27 @@ pub fn first_stage(phase_one: bool) -> Stage
     }
 }
 
-/// Runs the simplex in lists that are made for it: the numbers of the tableau, the basis, the rows that may
-/// leave, and a row to spare.
+/// Runs the simplex in lists that are made for it.
 pub fn solve_in<N: Exact>(
     alloc: Global,
     program: &Program<N>,
     cap: u32,
     shape: Shape,
     phase_one: bool,
-    cells: &mut [N],
-    basis: &mut [u32],
-    list: &mut [u32],
-    spare: &mut [N],
+    workspace: &mut Workspace<N>,
 ) -> Result<Answer<N>, Memory>
     requires program { IsProgram N.rational program.now }
     requires rows { shape.rows ≡ length program.now.rows.items }
     requires columns { shape.columns ≡ program.now.columns }
     requires phase_one { phase_one ≡ has_phase_one (linear_program N.rational program.now) }
-    requires whole { length cells.old ≡ cell_count shape }
-    requires basis { basis.old ≡ range_with_len shape.columns shape.rows }
-    requires basis_size { length basis.old ≡ shape.rows }
-    requires list { length list.old ≡ shape.rows }
-    requires spare { length spare.old ≡ shape.columns + shape.rows + 2 }
+    requires workspace { IsWorkspace shape workspace.old }
     ensures { IfOk result (λ a. outcome_of N.rational a ≡ run (Some (limit_of N.WIDTH)) cap (linear_program N.rational program.now)) }
 {
+    let cells = workspace.cells.as_mut_slice();
+    let basis = workspace.basis.as_mut_slice();
     fill(shape, cells, program, extra_entry(phase_one));
     let first = first_stage(phase_one);
-    let end = work(shape, cells, basis, first, cap, list, spare);
+    let end = work(shape, cells, basis, first, cap, &mut workspace.room);
     answer(alloc, shape, cells, basis, end)
 }
 
@@ -167,6 +164,7 @@ pub fn solve<N: Exact>(alloc: Global, program: &Program<N>, cap: u32) -> Result<
     ensures answer { IfOk result (λ a. outcome_of N.rational a ≡ run (Some (limit_of N.WIDTH)) cap (linear_program N.rational program.now)) }
     ensures proved { IfOk result (λ a. IsProved (linear_program N.rational program.now) (outcome_of N.rational a)) }
     ensures bases { (pivots : ℕ) → AreAllDifferent (bases (linear_program N.rational program.now) pivots) }
+    ensures unread { (t u : Tableau) → AgreeWithoutExtra t u → HaveSameRuns t u }
     ensures pivots { IfOk result (λ a. HasFewerPivots (basis_count (linear_program N.rational program.now)) cap (outcome_of N.rational a)) }
 {
     let shape = Shape {
@@ -174,11 +172,6 @@ pub fn solve<N: Exact>(alloc: Global, program: &Program<N>, cap: u32) -> Result<
         columns: program.columns as usize,
     };
     let phase_one = has_negative(&program.right);
-    let mut cells = zeros(alloc, shape.size())?;
-    let mut basis = first_basis(alloc, shape)?;
-    let mut list = zero_rows(alloc, shape.rows)?;
-    let mut spare = zeros(alloc, shape.width())?;
-    solve_in(
-        alloc, program, cap, shape, phase_one, &mut cells, &mut basis, &mut list, &mut spare,
-    )
+    let mut workspace = Workspace::new(alloc, shape)?;
+    solve_in(alloc, program, cap, shape, phase_one, &mut workspace)
 }

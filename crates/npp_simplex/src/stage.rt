@@ -1,4 +1,4 @@
-// The stages of a run.
+//! The stages of a run.
 
 /// Where a run stands.
 #[derive(Clone, Copy, PartialEq, Eq, Debug)]
@@ -9,4 +9,13 @@ pub enum Stage {
     PhaseOne,
     /// In phase two, which raises the goal of the program.
     PhaseTwo,
+}
+
+/// The column that enters the basis, and the stage in which it does.
+#[derive(Clone, Copy, Debug)]
+pub struct EnteringColumn {
+    /// The stage.
+    pub stage: Stage,
+    /// The column.
+    pub column: usize,
 }

@@ -1,122 +1,207 @@
-//! Worked examples of one row.
+//! Worked examples.
 
-ghost use Rattle.std.specs.Prelude.{◌≡◌, ◌≢◌, [], ◌∷◌, IfOk};
-ghost use Rattle.npp_frac.specs.Rational.{zero_ℚ};
-ghost use Rattle.npp_lp.specs.Meaning.{IsProgram};
+ghost use Rattle.std.specs.Prelude.{◌+◌, ◌<◌, ◌^◌, length, IfOk, IfSome};
+ghost use Rattle.npp_lp.specs.Programs.{AreTerms};
+ghost use Rattle.npp_lp.specs.Meaning.{IsProgram, terms_of};
 
-use crate::numbers::is_zero;
 use crate::{Answer, Step, solve};
-use npp_frac::{Exact, Frac32, Frac64};
+use npp_frac::{Exact, Frac32, Frac64, Memory, is_zero};
 use npp_lp::{Entry, Program};
 use std::alloc::{AllocError, Global};
 use std::test::Fail;
 
-/// The list of one member.
-fn single<T: Drop>(alloc: Global, member: T) -> Result<Vec<T>, AllocError>
-    ensures { IfOk result (λ v. v.items ≡ member ∷ []) }
+/// The entries of a row with these coefficients.
+fn row<N: Exact>(alloc: Global, coefficients: &[N]) -> Result<Vec<Entry<N>>, AllocError>
+    requires { length coefficients.now < 2 ^ 31 }
+    ensures { IfOk result (λ entries. AreTerms (length coefficients.now) (terms_of N.rational entries.items)) }
 {
-    let mut list = Vec::new(alloc);
-    list.push(member)?;
-    Ok(list)
+    let mut entries = Vec::new(alloc);
+    for column in 0..coefficients.len() {
+        let value = coefficients[column];
+        if !is_zero(value) {
+            entries.push(Entry {
+                column: column as u32,
+                value,
+            })?;
+        }
+    }
+    Ok(entries)
 }
 
-/// The greatest x at least 0 whose product with the coefficient is at most the right side.
-fn one_row<N: Exact>(alloc: Global, coefficient: N, right: N) -> Result<Program<N>, AllocError>
-    requires { N.rational coefficient ≢ zero_ℚ }
-    ensures { IfOk result (IsProgram N.rational) }
+/// The program with these rows and this goal. A row has a coefficient for each column, and its right side.
+fn program<N: Exact>(
+    alloc: Global,
+    rows: &[(&[N], N)],
+    goal: &[N],
+) -> Result<Option<Program<N>>, AllocError>
+    requires few { length rows.now + length goal.now < 2 ^ 31 }
+    ensures { IfOk result (λ p. IfSome p (IsProgram N.rational)) }
 {
-    let entry = Entry {
-        column: 0,
-        value: coefficient,
-    };
-    Ok(Program {
-        columns: 1,
-        rows: single(alloc, single(alloc, entry)?)?,
-        right: single(alloc, right)?,
-        goal: single(alloc, N::of_whole(1))?,
-    })
+    let mut lines = Vec::new(alloc);
+    let mut right = Vec::new(alloc);
+    for i in 0..rows.len() {
+        let (coefficients, bound) = rows[i];
+        if coefficients.len() != goal.len() {
+            return Ok(None);
+        }
+        lines.push(row(alloc, coefficients)?)?;
+        right.push(bound)?;
+    }
+    Ok(Some(Program {
+        columns: goal.len() as u32,
+        rows: lines,
+        right,
+        goal: Vec::from_slice(alloc, goal)?,
+    }))
 }
 
-/// Whether a list holds the number 1 alone.
-fn is_one<N: Exact>(list: &[N]) -> bool {
-    list.len() == 1 && list[0].num() == 1 && list[0].den() == 1
+/// What the run answers, with at most so many pivots.
+fn answer<N: Exact>(
+    alloc: Global,
+    rows: &[(&[N], N)],
+    goal: &[N],
+    cap: u32,
+) -> Result<Answer<N>, Memory>
+    requires few { length rows.now + length goal.now < 2 ^ 31 }
+{
+    match program(alloc, rows, goal)? {
+        Some(program) => solve(alloc, &program, cap),
+        None => Err(Memory),
+    }
 }
 
-/// Whether an answer is the point 1 with the multiplier 1 and the value 1, after one pivot.
-fn is_best_at_one<N: Exact>(answer: &Answer<N>) -> bool {
+/// Whether the numbers are these, each by its numerator and its denominator.
+fn are<N: Exact>(numbers: &[N], parts: &[(i128, i128)]) -> bool {
+    if numbers.len() != parts.len() {
+        return false;
+    }
+    for i in 0..numbers.len() {
+        let (num, den) = parts[i];
+        if numbers[i].num() != num || numbers[i].den() != den {
+            return false;
+        }
+    }
+    true
+}
+
+/// Whether the answer is this point with this whole value.
+fn is_best<N: Exact>(answer: &Answer<N>, point: &[(i128, i128)], best: i128) -> bool {
     match answer {
-        Answer::Optimal {
-            x,
-            y,
-            value,
-            pivots,
-        } => is_one(x) && is_one(y) && value.num() == 1 && *pivots == 1,
+        Answer::Optimal { x, value, .. } => {
+            are(x, point) && value.num() == best && value.den() == 1
+        }
         _ => false,
     }
 }
 
-#[test]
-fn a_row_bounds_the_goal(rt: HostRuntime) -> Result<(), Fail> {
-    let one = Frac64::of_whole(1);
-    assert!(rt; !is_zero(one));
-    let program = one_row(rt.alloc(), one, one)?;
-    let answer = solve(rt.alloc(), &program, 1)?;
-    assert!(rt; is_best_at_one(&answer));
-    Ok(())
-}
-
-#[test]
-fn no_pivot_is_allowed(rt: HostRuntime) -> Result<(), Fail> {
-    let one = Frac64::of_whole(1);
-    assert!(rt; !is_zero(one));
-    let program = one_row(rt.alloc(), one, one)?;
-    let answer = solve(rt.alloc(), &program, 0)?;
-    assert!(rt; matches!(answer, Answer::Capped));
-    Ok(())
-}
-
-#[test]
-fn no_point_is_below_zero(rt: HostRuntime) -> Result<(), Fail> {
-    let one = Frac64::of_whole(1);
-    assert!(rt; !is_zero(one));
-    let program = one_row(rt.alloc(), one, Frac64::of_whole(-1))?;
-    match solve(rt.alloc(), &program, 9)? {
-        Answer::Infeasible { y, pivots } => assert!(rt; is_one(&y) && pivots == 1),
-        _ => assert!(rt; false, "x is at least 0"),
-    }
-    Ok(())
-}
-
-#[test]
-fn a_goal_rises_without_end(rt: HostRuntime) -> Result<(), Fail> {
-    let minus_one = Frac64::of_whole(-1);
-    assert!(rt; !is_zero(minus_one));
-    let program = one_row(rt.alloc(), minus_one, Frac64::of_whole(0))?;
-    match solve(rt.alloc(), &program, 9)? {
-        Answer::Unbounded { ray, pivots } => assert!(rt; is_one(&ray) && pivots == 0),
-        _ => assert!(rt; false, "nothing bounds x"),
-    }
-    Ok(())
-}
-
-#[test]
-fn a_quotient_that_does_not_fit_is_named(rt: HostRuntime) -> Result<(), Fail> {
-    let large = Frac32::of_whole(65_536);
-    assert!(rt; !is_zero(large));
-    let Ok(small) = Frac32::of_whole(1).div(large) else {
-        return Ok(assert!(rt; false, "1/65536 fits 32 bits"));
-    };
-    let program = one_row(rt.alloc(), large, small)?;
-    match solve(rt.alloc(), &program, 9)? {
+/// Whether the answer is that of this place in the first pivot.
+fn stops_at<N: Exact>(answer: &Answer<N>, at: Step, at_row: u32, at_column: u32) -> bool {
+    match answer {
         Answer::Overflow {
             pivot,
             step,
             row,
             column,
-        } => {
-            assert!(rt; pivot == 1 && step == Step::Pivot && row == 0 && column == 3);
-        }
-        _ => assert!(rt; false, "65536 * 65536 does not fit 32 bits"),
+        } => *pivot == 1 && *step == at && *row == at_row && *column == at_column,
+        _ => false,
     }
+}
+
+#[test]
+fn optimal(rt: HostRuntime) -> Result<(), Fail> {
+    let alloc = rt.alloc();
+    let whole = Frac64::of_whole;
+    let (zero, one, minus_one) = (whole(0), whole(1), whole(-1));
+
+    let bounded = answer(alloc, &[(&[one], one)], &[one], 1)?;
+    assert!(rt; is_best(&bounded, &[(1, 1)], 1));
+
+    let tied = answer(
+        alloc,
+        &[(&[one, one], one), (&[one, zero], one)],
+        &[one, one],
+        9,
+    )?;
+    assert!(rt; is_best(&tied, &[(1, 1), (0, 1)], 1));
+
+    // The first pivot changes no value.
+    let degenerate = answer(
+        alloc,
+        &[
+            (&[one, minus_one], zero),
+            (&[one, zero], one),
+            (&[zero, one], one),
+        ],
+        &[one, one],
+        9,
+    )?;
+    assert!(rt; is_best(&degenerate, &[(1, 1), (1, 1)], 2));
+
+    // At least 2 and at most 3, as little as can be.
+    let at_least = answer(
+        alloc,
+        &[(&[one], whole(3)), (&[minus_one], whole(-2))],
+        &[minus_one],
+        9,
+    )?;
+    assert!(rt; is_best(&at_least, &[(2, 1)], -2));
+    Ok(())
+}
+
+#[test]
+fn infeasible(rt: HostRuntime) -> Result<(), Fail> {
+    let alloc = rt.alloc();
+    let (one, minus_one) = (Frac64::of_whole(1), Frac64::of_whole(-1));
+    match answer(alloc, &[(&[one], minus_one)], &[one], 9)? {
+        Answer::Infeasible { y, .. } => assert!(rt; are(&y, &[(1, 1)])),
+        _ => assert!(rt; false, "x is at least 0"),
+    }
+
+    // At least 2 and at most 1: phase one makes the extra variable smaller before it ends.
+    let minus_two = Frac64::of_whole(-2);
+    match answer(
+        alloc,
+        &[(&[one], one), (&[minus_one], minus_two)],
+        &[one],
+        9,
+    )? {
+        Answer::Infeasible { y, pivots } => {
+            assert!(rt; are(&y, &[(1, 2), (1, 2)]) && pivots == 2);
+        }
+        _ => assert!(rt; false, "no number is at least 2 and at most 1"),
+    }
+    Ok(())
+}
+
+#[test]
+fn unbounded_and_capped(rt: HostRuntime) -> Result<(), Fail> {
+    let alloc = rt.alloc();
+    let (zero, one, minus_one) = (
+        Frac64::of_whole(0),
+        Frac64::of_whole(1),
+        Frac64::of_whole(-1),
+    );
+    match answer(alloc, &[(&[minus_one], zero)], &[one], 9)? {
+        Answer::Unbounded { ray, pivots } => assert!(rt; are(&ray, &[(1, 1)]) && pivots == 0),
+        _ => assert!(rt; false, "nothing bounds x"),
+    }
+    let capped = answer(alloc, &[(&[one], one)], &[one], 0)?;
+    assert!(rt; matches!(capped, Answer::Capped));
+    Ok(())
+}
+
+/// The first quotient of a ratio test, and the first of a replacement where only one row can leave.
+#[test]
+fn the_first_place_that_does_not_fit(rt: HostRuntime) -> Result<(), Fail> {
+    let alloc = rt.alloc();
+    let (one, large) = (Frac32::of_whole(1), Frac32::of_whole(65_536));
+    assert!(rt; !is_zero(large));
+    let Ok(small) = one.div(large) else {
+        return Ok(assert!(rt; false, "1/65536 fits 32 bits"));
+    };
+    let alone = answer(alloc, &[(&[large], small)], &[one], 9)?;
+    assert!(rt; stops_at(&alone, Step::Pivot, 0, 3));
+    let two = answer(alloc, &[(&[large], small), (&[one], one)], &[one], 9)?;
+    assert!(rt; stops_at(&two, Step::Ratio, 0, 4));
     Ok(())
 }

@@ -1,4 +1,4 @@
-// What is read off the last tableau.
+//! What is read off the last tableau.
 
 ghost use Rattle.std.specs.Prelude.{◌≡◌, ℕ, ◌+◌, ◌<◌, ◌≤◌, ◌^◌, length, map, IfSome, IfOk};
 ghost use Rattle.npp_frac.specs.Rational.{negative};

@@ -12,12 +12,12 @@ pub returns-in-Some-clause-stop : goal.returns-in-Some-clause-stop
 returns-in-Some-clause-stop g c =
     let v = g.N.Exact.rational in
     let found = sym c.in-Some.is ∙ c.reduce_row.ensures.stop in
-    sym (reduced_found (tableau_of v c.args.shape c.args.cells.now) (tableau_of v c.args.shape c.loop-i.cells) c.args.row c.args.column (at (map v c.args.divided.now)) (limit_of g.N.Exact.WIDTH) c.loop-i.i c.in-Some.j c.loop-i.invariant refl c.requires.column (omega arith) found)
+    sym (reduced_found (tableau_of v c.args.shape c.args.cells.now) (tableau_of v c.args.shape c.loop-i.cells) c.args.row c.args.column (at (map v c.args.divided.now)) (limit_of g.N.Exact.WIDTH) c.loop-i.i c.in-Some.j c.loop-i.invariant refl c.requires.column (omega arith) c.if-i-row.false found)
 
 pub loop-i-preserved : goal.loop-i-preserved
 loop-i-preserved g c =
     let v = g.N.Exact.rational in
-    reduced_more (tableau_of v c.args.shape c.args.cells.now) (tableau_of v c.args.shape c.loop-i.cells) (tableau_of v c.args.shape c.reduce_row.new.cells) c.args.row c.args.column (at (map v c.args.divided.now)) (limit_of g.N.Exact.WIDTH) c.loop-i.i c.loop-i.invariant refl c.requires.column (omega arith) c.in-None.ensures.cells (sym c.in-None.is ∙ c.reduce_row.ensures.stop)
+    reduced_more (tableau_of v c.args.shape c.args.cells.now) (tableau_of v c.args.shape c.loop-i.cells) (tableau_of v c.args.shape c.reduce_row.new.cells) c.args.row c.args.column (at (map v c.args.divided.now)) (limit_of g.N.Exact.WIDTH) c.loop-i.i c.loop-i.invariant refl c.requires.column (omega arith) c.if-i-row.false c.in-None.ensures.cells (sym c.in-None.is ∙ c.reduce_row.ensures.stop)
 
 pub returns-clause-stop : goal.returns-clause-stop
 returns-clause-stop g c =

@@ -7,5 +7,5 @@ use Rattle.npp_simplex.proofs.ratio.refine_by_slacks.Given as goal
 
 abbrev pub invariant-loop-key : goal.invariant-loop-key
 invariant-loop-key g l =
-    StandsAt (Some (limit_of g.N.Exact.WIDTH)) l.stage (tableau_of g.N.Exact.rational l.shape l.cells) l.column
+    StandsAt (Some (limit_of g.N.Exact.WIDTH)) l.entering.stage (tableau_of g.N.Exact.rational l.shape l.cells) l.entering.column
     (range_with_len l.shape.columns l.shape.rows) (take l.count l.initial.candidates) (range_with_len l.key (l.shape.columns + l.shape.rows - l.key)) l.candidates l.left

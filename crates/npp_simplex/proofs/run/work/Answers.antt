@@ -9,7 +9,7 @@ loop-made-init g c =
     let v = g.N.Exact.rational in
     let m = Some (limit_of g.N.Exact.WIDTH) in
     let all : c.args.cap - 0 ≡ c.args.cap = omega arith in
-    record { entry = c.requires.entry; run = ap (λ k. run_from m k 0 (state_of v c.args.shape c.args.first c.args.cells.now c.args.basis.now)) all }
+    record { room = c.requires.room; ready = c.requires.ready; run = ap (λ k. run_from m k 0 (state_of v c.args.shape c.args.first c.args.cells.now c.args.basis.now)) all }
 
 pub loop-made-preserved : goal.loop-made-preserved
 loop-made-preserved g c =
@@ -19,7 +19,8 @@ loop-made-preserved g c =
     let left = c.args.cap - (c.loop-made.made + 1) in
     let one_more : c.args.cap - c.loop-made.made ≡ suc left = omega arith in
     record {
-      entry = c.in-Ok.ensures.entry;
+      room = c.turn.ensures.room;
+      ready = c.in-Ok.ensures.ready;
       run = sym (c.in-Ok.ensures.goes_on left) ∙ ap (λ k. run_from m k c.loop-made.made x) (sym one_more) ∙ c.loop-made.invariant.run;
     }
 
