@@ -2,25 +2,29 @@
 //!
 //! A line `WIDTH BITS COUNT` of the input takes all `a - b * c` over so many fractions, with numerators and denominators
 //! of a length in bits, 0 for whole numbers, and prints a sum of the numbers of the answers. A line
-//! `dual ROWS COLUMNS NONZERO` checks a dual answer with so many multipliers above 0, and prints its value.
+//! `dual ROWS COLUMNS NONZERO` checks a dual answer with so many multipliers above 0, and prints its value. A line
+//! `simplex WIDTH ROWS COLUMNS MOST` runs the simplex on a generated program, and prints the pivots and the greatest goal.
 #![tactic(auto)]
 
 mod dual;
+mod interval;
 mod pass;
+mod simplex;
 
 use dual::checked;
-use npp_frac::{Frac32, Frac64, Frac128};
+use npp_frac::{Exact, Frac32, Frac64, Frac128};
 use pass::pass;
+use simplex::solved;
 use std::alloc::Global;
 use std::io;
 
 /// The three numbers of a line.
 fn numbers(line: &str) -> Option<(u32, u32, u32)> {
     let mut words = line.split_whitespace();
-    let width = words.next()?.parse::<u32>().ok()?;
-    let bits = words.next()?.parse::<u32>().ok()?;
-    let count = words.next()?.parse::<u32>().ok()?;
-    Some((width, bits, count))
+    let first = words.next()?.parse::<u32>().ok()?;
+    let second = words.next()?.parse::<u32>().ok()?;
+    let third = words.next()?.parse::<u32>().ok()?;
+    Some((first, second, third))
 }
 
 fn main(rt: HostRuntime) -> io::Result<()> {
@@ -28,6 +32,14 @@ fn main(rt: HostRuntime) -> io::Result<()> {
         let line = line?;
         if let Some(sizes) = line.strip_prefix("dual ") {
             print_dual(&rt, rt.alloc(), sizes)?;
+            continue;
+        }
+        if let Some(sizes) = line.strip_prefix("simplex 64 ") {
+            print_simplex::<Frac64>(&rt, rt.alloc(), 64, sizes)?;
+            continue;
+        }
+        if let Some(sizes) = line.strip_prefix("simplex 128 ") {
+            print_simplex::<Frac128>(&rt, rt.alloc(), 128, sizes)?;
             continue;
         }
         let Some((width, bits, count)) = numbers(line.as_str()) else {
@@ -51,4 +63,23 @@ fn print_dual(rt: &impl Print, alloc: Global, sizes: &str) -> io::Result<()> {
     };
     let value = checked(alloc, rows, columns, nonzero)?;
     println!(rt; "rows {rows} columns {columns} nonzero {nonzero}: {value}")
+}
+
+/// Runs the simplex on a program of the sizes of a line.
+fn print_simplex<N: Exact>(
+    rt: &impl Print,
+    alloc: Global,
+    width: u32,
+    sizes: &str,
+) -> io::Result<()> {
+    let Some((rows, columns, most)) = numbers(sizes) else {
+        return println!(rt; "rows, columns and the greatest factor are wanted");
+    };
+    let Some(end) = solved::<N>(alloc, rows, columns, most)? else {
+        return println!(rt; "width {width} rows {rows} columns {columns} most {most}: no optimum");
+    };
+    println!(rt;
+        "width {width} rows {rows} columns {columns} most {most}: {} pivots, optimal {}/{}",
+        end.pivots, end.num, end.den
+    )
 }

@@ -7,7 +7,7 @@ use Rattle.npp_frac.specs.Sign.{nonzero_of_whole}
 use Rattle.npp_lp.specs.declared.program.Entry.{Entry}
 use Rattle.npp_lp.specs.Programs.{Row, AreTerms}
 use Rattle.npp_lp.specs.Meaning.{rows_of}
-use Rattle.npp_bench.proofs.DenseLemmas.{rows_push}
+use Rattle.npp_lp.specs.GrowLaws.{rows_push}
 use Rattle.npp_bench.proofs.dual.dense.Goals as goal
 
 pub row-requires : goal.row-requires

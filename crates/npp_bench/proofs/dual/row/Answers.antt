@@ -4,7 +4,7 @@ use Rattle.npp_frac.specs.Narrow.{value_of_64}
 use Rattle.npp_lp.specs.declared.program.Entry.{Entry}
 use Rattle.npp_lp.specs.Programs.{AreTerms}
 use Rattle.npp_lp.specs.Meaning.{terms_of}
-use Rattle.npp_bench.proofs.DenseLemmas.{entries_push}
+use Rattle.npp_lp.specs.GrowLaws.{entries_push}
 use Rattle.npp_bench.proofs.dual.row.Goals as goal
 
 pub loop-column-preserved : goal.loop-column-preserved
