@@ -2,68 +2,13 @@
 // times and answers with `npp_bench`. On standard error it tells the updates: how often a number lost a product that is
 // not 0.
 
-use std::io::{self, BufRead};
+mod rule;
 
-#[derive(Clone, Copy, PartialEq)]
-struct Fraction {
-    num: i128,
-    den: u128,
-}
+use rule::{Fraction, gcd, product, sum};
+use std::io::{self, BufRead};
 
 const ZERO: Fraction = Fraction { num: 0, den: 1 };
 const ONE: Fraction = Fraction { num: 1, den: 1 };
-
-fn gcd_of_words(mut a: u64, mut b: u64) -> u64 {
-    while b != 0 {
-        (a, b) = (b, a % b);
-    }
-    a
-}
-
-fn gcd(mut a: u128, mut b: u128) -> u128 {
-    if a == 1 || b == 1 {
-        return 1;
-    }
-    while b > u128::from(u64::MAX) {
-        (a, b) = (b, a % b);
-    }
-    if b == 0 {
-        return a;
-    }
-    let a = if a > u128::from(u64::MAX) { a % b } else { a };
-    u128::from(gcd_of_words(b as u64, a as u64))
-}
-
-fn divided(a: u128, by: u128) -> u128 {
-    if by == 1 { a } else { a / by }
-}
-
-fn quotient(a: i128, by: u128) -> i128 {
-    if by == 1 { a } else { a / by as i128 }
-}
-
-fn below(value: i128, limit: u128) -> Option<i128> {
-    (value.unsigned_abs() < limit).then_some(value)
-}
-
-fn sum(a: Fraction, b: Fraction, limit: u128) -> Option<Fraction> {
-    let g = gcd(a.den, b.den);
-    let (a_den, b_den) = (divided(a.den, g), divided(b.den, g));
-    let left = below(a.num.checked_mul(b_den as i128)?, limit)?;
-    let right = below(b.num.checked_mul(a_den as i128)?, limit)?;
-    let total = below(left.checked_add(right)?, limit)?;
-    let den = a_den.checked_mul(b.den).filter(|den| *den < limit)?;
-    let h = gcd(total.unsigned_abs(), g);
-    Some(Fraction { num: quotient(total, h), den: divided(den, h) })
-}
-
-fn product(a: Fraction, b: Fraction, limit: u128) -> Option<Fraction> {
-    let first = gcd(a.num.unsigned_abs(), b.den);
-    let second = gcd(b.num.unsigned_abs(), a.den);
-    let num = below(quotient(a.num, first).checked_mul(quotient(b.num, second))?, limit)?;
-    let den = divided(a.den, second).checked_mul(divided(b.den, first)).filter(|den| *den < limit)?;
-    Some(Fraction { num, den })
-}
 
 fn negated(a: Fraction) -> Fraction {
     Fraction { num: -a.num, den: a.den }
