@@ -3,3 +3,4 @@ pub mod Digits
 pub mod Pairs
 pub mod Wider
 pub mod Signs
+pub mod Halving
