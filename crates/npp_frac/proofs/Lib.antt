@@ -3,4 +3,5 @@ pub mod Digits
 pub mod Pairs
 pub mod Wider
 pub mod Signs
+pub mod WholeNumbers
 pub mod Halving

@@ -1,7 +1,7 @@
 //! Operations on pairs, below a limit. They are inlined, since to copy their results takes longer than
 //! to find them.
 
-ghost use Rattle.std.specs.Prelude.{◌≡◌, ◌≢◌, ◌<◌, ◌≤◌, ◌^◌, ◌↔◌, nat_abs, is_some, IsSome, IfSome};
+ghost use Rattle.std.specs.Prelude.{◌≡◌, ◌≢◌, ◌<◌, ◌≤◌, ◌^◌, ◌↔◌, nat_abs, is_some, IsTrue, IsSome, IfSome};
 ghost use Rattle.npp_frac.specs.Gcd.{gcd as gcd_of};
 ghost use Rattle.npp_frac.specs.Rational.{ratio, whole, zero_ℚ, negative as negative_of, reciprocal, ◌+ℚ◌, ◌-ℚ◌, ◌*ℚ◌, ◌/ℚ◌};
 ghost use Rattle.npp_frac.specs.Fits.{FitsBelow, FitsAdd, FitsMul, fits_add, fits_sub, fits_mul, fits_div};
@@ -32,9 +32,48 @@ pub fn reduced(num: i128, den: u128, divisor: u128) -> Reduced
     }
 }
 
+/// Whether both values are whole numbers, as most are. They have no common factors to take out.
+#[inline(always)]
+fn are_whole(a: Reduced, b: Reduced) -> bool
+    ensures { IsTrue result → (a.den ≡ 1) × (b.den ≡ 1) }
+{
+    a.den == 1 && b.den == 1
+}
+
 /// The sum, where its numbers are below the limit.
 #[inline(always)]
 pub fn sum(a: Reduced, b: Reduced, limit: u128) -> Option<Reduced>
+    requires limit { limit ≤ 2 ^ 127 }
+    requires left { FitsBelow limit (value_of a) }
+    requires right { FitsBelow limit (value_of b) }
+    ensures fits { IsSome result ↔ FitsAdd limit (value_of a) (value_of b) }
+    ensures exact { IfSome result (λ r. value_of r ≡ value_of a +ℚ value_of b) }
+    ensures below { IfSome result (λ r. FitsBelow limit (value_of r)) }
+{
+    if are_whole(a, b) {
+        whole_sum(a, b, limit)
+    } else {
+        fraction_sum(a, b, limit)
+    }
+}
+
+/// The sum of whole numbers, where it is below the limit.
+#[inline(always)]
+fn whole_sum(a: Reduced, b: Reduced, limit: u128) -> Option<Reduced>
+    requires limit { limit ≤ 2 ^ 127 }
+    requires whole { (a.den ≡ 1) × (b.den ≡ 1) }
+    requires left { FitsBelow limit (value_of a) }
+    requires right { FitsBelow limit (value_of b) }
+    ensures fits { IsSome result ↔ FitsAdd limit (value_of a) (value_of b) }
+    ensures exact { IfSome result (λ r. value_of r ≡ value_of a +ℚ value_of b) }
+    ensures below { IfSome result (λ r. FitsBelow limit (value_of r)) }
+{
+    let num = signed_sum(a.num, b.num, limit)?;
+    Some(of_whole(num))
+}
+
+/// The sum, where its numbers are below the limit.
+fn fraction_sum(a: Reduced, b: Reduced, limit: u128) -> Option<Reduced>
     requires { limit ≤ 2 ^ 127 }
     ensures fits { IsSome result ↔ FitsAdd limit (value_of a) (value_of b) }
     ensures exact { IfSome result (λ r. value_of r ≡ value_of a +ℚ value_of b) }
@@ -54,6 +93,35 @@ pub fn sum(a: Reduced, b: Reduced, limit: u128) -> Option<Reduced>
 /// The product, where its numbers are below the limit.
 #[inline(always)]
 pub fn product(a: Reduced, b: Reduced, limit: u128) -> Option<Reduced>
+    requires limit { limit ≤ 2 ^ 127 }
+    requires above { 1 < limit }
+    ensures fits { IsSome result ↔ FitsMul limit (value_of a) (value_of b) }
+    ensures exact { IfSome result (λ r. value_of r ≡ value_of a *ℚ value_of b) }
+    ensures below { IfSome result (λ r. FitsBelow limit (value_of r)) }
+{
+    if are_whole(a, b) {
+        whole_product(a, b, limit)
+    } else {
+        fraction_product(a, b, limit)
+    }
+}
+
+/// The product of whole numbers, where it is below the limit.
+#[inline(always)]
+fn whole_product(a: Reduced, b: Reduced, limit: u128) -> Option<Reduced>
+    requires limit { limit ≤ 2 ^ 127 }
+    requires above { 1 < limit }
+    requires whole { (a.den ≡ 1) × (b.den ≡ 1) }
+    ensures fits { IsSome result ↔ FitsMul limit (value_of a) (value_of b) }
+    ensures exact { IfSome result (λ r. value_of r ≡ value_of a *ℚ value_of b) }
+    ensures below { IfSome result (λ r. FitsBelow limit (value_of r)) }
+{
+    let num = signed_product(a.num, b.num, limit)?;
+    Some(of_whole(num))
+}
+
+/// The product, where its numbers are below the limit.
+fn fraction_product(a: Reduced, b: Reduced, limit: u128) -> Option<Reduced>
     requires { limit ≤ 2 ^ 127 }
     ensures fits { IsSome result ↔ FitsMul limit (value_of a) (value_of b) }
     ensures exact { IfSome result (λ r. value_of r ≡ value_of a *ℚ value_of b) }
@@ -69,20 +137,22 @@ pub fn product(a: Reduced, b: Reduced, limit: u128) -> Option<Reduced>
 }
 
 /// The pair of a whole number.
-pub fn of_whole(value: i64) -> Reduced
-    ensures exact { value_of result ≡ whole value }
-    ensures num { result.num ≡ value }
+#[inline(always)]
+pub fn of_whole(num: i128) -> Reduced
+    requires { nat_abs num < 2 ^ 127 }
+    ensures exact { value_of result ≡ whole num }
+    ensures num { result.num ≡ num }
     ensures den { result.den ≡ 1 }
 {
-    Reduced {
-        num: i128::from(value),
-        den: 1,
-    }
+    Reduced { num, den: 1 }
 }
 
 /// The negative.
+#[inline(always)]
 pub fn negated(a: Reduced) -> Reduced
-    ensures { value_of result ≡ negative_of (value_of a) }
+    ensures exact { value_of result ≡ negative_of (value_of a) }
+    ensures num { nat_abs result.num ≡ nat_abs a.num }
+    ensures den { result.den ≡ a.den }
 {
     Reduced {
         num: negative(a.num),
@@ -117,7 +187,9 @@ pub fn floor(a: Reduced) -> Reduced
 /// The sum, by the rule as a test.
 #[inline(always)]
 pub fn add(a: Reduced, b: Reduced, limit: u128) -> Option<Reduced>
-    requires { limit ≤ 2 ^ 127 }
+    requires limit { limit ≤ 2 ^ 127 }
+    requires left { FitsBelow limit (value_of a) }
+    requires right { FitsBelow limit (value_of b) }
     ensures fits { is_some result ≡ fits_add limit (value_of a) (value_of b) }
     ensures exact { IfSome result (λ r. value_of r ≡ value_of a +ℚ value_of b) }
     ensures below { IfSome result (λ r. FitsBelow limit (value_of r)) }
@@ -128,7 +200,9 @@ pub fn add(a: Reduced, b: Reduced, limit: u128) -> Option<Reduced>
 /// The difference.
 #[inline(always)]
 pub fn sub(a: Reduced, b: Reduced, limit: u128) -> Option<Reduced>
-    requires { limit ≤ 2 ^ 127 }
+    requires limit { limit ≤ 2 ^ 127 }
+    requires left { FitsBelow limit (value_of a) }
+    requires right { FitsBelow limit (value_of b) }
     ensures fits { is_some result ≡ fits_sub limit (value_of a) (value_of b) }
     ensures exact { IfSome result (λ r. value_of r ≡ value_of a -ℚ value_of b) }
     ensures below { IfSome result (λ r. FitsBelow limit (value_of r)) }
@@ -139,7 +213,8 @@ pub fn sub(a: Reduced, b: Reduced, limit: u128) -> Option<Reduced>
 /// The product, by the rule as a test.
 #[inline(always)]
 pub fn mul(a: Reduced, b: Reduced, limit: u128) -> Option<Reduced>
-    requires { limit ≤ 2 ^ 127 }
+    requires limit { limit ≤ 2 ^ 127 }
+    requires above { 1 < limit }
     ensures fits { is_some result ≡ fits_mul limit (value_of a) (value_of b) }
     ensures exact { IfSome result (λ r. value_of r ≡ value_of a *ℚ value_of b) }
     ensures below { IfSome result (λ r. FitsBelow limit (value_of r)) }
@@ -150,6 +225,7 @@ pub fn mul(a: Reduced, b: Reduced, limit: u128) -> Option<Reduced>
 /// The quotient.
 pub fn div(a: Reduced, b: Reduced, limit: u128) -> Option<Reduced>
     requires limit { limit ≤ 2 ^ 127 }
+    requires above { 1 < limit }
     requires divisor { value_of b ≢ zero_ℚ }
     ensures fits { is_some result ≡ fits_div limit (value_of a) (value_of b) }
     ensures exact { IfSome result (λ r. value_of r ≡ value_of a /ℚ value_of b) }

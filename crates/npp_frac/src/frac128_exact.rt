@@ -28,7 +28,7 @@ impl Exact for Frac128 {
     #[tactic(auto, unfolding(crate::specs::Wide::value_of_wide))]
     fn of_whole(value: i64) -> Frac128 {
         Frac128 {
-            pair: arithmetic::of_whole(value),
+            pair: arithmetic::of_whole(i128::from(value)),
         }
     }
 

@@ -21,7 +21,8 @@ impl Frac32 {
     /// The pair on which the arithmetic works.
     #[inline(always)]
     pub(crate) fn pair(self) -> Reduced
-        ensures { value_of result ≡ value_of_32 self }
+        ensures value { value_of result ≡ value_of_32 self }
+        ensures below { FitsBelow (2 ^ 31) (value_of result) }
     {
         Reduced {
             num: i128::from(self.num),
@@ -57,7 +58,7 @@ impl Exact for Frac32 {
     const WIDTH: u32 = 32;
 
     fn of_whole(value: i64) -> Frac32 {
-        Frac32::of_pair(arithmetic::of_whole(value))
+        Frac32::of_pair(arithmetic::of_whole(i128::from(value)))
     }
 
     #[inline(always)]

@@ -3,8 +3,7 @@
 ghost use Rattle.std.specs.Prelude.{◌≡◌, ◌≢◌, ◌+◌, ◌%◌, ◌<◌, ◌≤◌, min};
 ghost use Rattle.npp_frac.specs.Gcd.{gcd as gcd_of};
 
-/// The greatest number of 64 bits.
-const WORD: u128 = 18_446_744_073_709_551_615;
+use crate::numbers::WORD;
 
 /// The greatest common divisor.
 #[inline(always)]

@@ -24,10 +24,11 @@ pub enum Op {
 /// An operation whose numbers do not fit the width, with its operands as they were given.
 #[derive(Clone, Copy, Debug)]
 pub struct Overflow<N> {
-    /// The operation.
-    pub op: Op,
     /// The first operand: the minuend of a difference, the dividend of a quotient.
     pub left: N,
     /// The second operand.
     pub right: N,
+    /// The operation. It stands last, so that in a result an operand lies where a value would: with another field at
+    /// that place the compiler copies values by parts, and one `a - b * c` takes twice as long.
+    pub op: Op,
 }

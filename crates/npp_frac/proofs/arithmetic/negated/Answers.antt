@@ -4,9 +4,9 @@ use Rattle.std.specs.Int.{w128}
 use Rattle.npp_frac.specs.Rational.{same_fields, negative}
 use Rattle.npp_frac.proofs.arithmetic.negated.Goals as goal
 
-pub returns : goal.returns
+pub returns-clause-exact : goal.returns-clause-exact
 unfolding negative
-returns c =
+returns-clause-exact c =
     let fits : FitsSigned w128 c.negative.result = search rules in
     let is : c.negative.result ≡ neg_ℤ c.args.a.num = search (rules, to_z-of_z) in
     same_fields _ _ (to_z-of_z fits ∙ is) refl

@@ -7,10 +7,10 @@ use Rattle.npp_frac.proofs.arithmetic.sub.Goals as goal
 
 pub returns-clause-fits : goal.returns-clause-fits
 unfolding fits_sub
-returns-clause-fits c = c.add.ensures.fits ∙ ap (λ t. fits_add c.args.limit (value_of c.args.a) t) c.negated.ensures
+returns-clause-fits c = c.add.ensures.fits ∙ ap (λ t. fits_add c.args.limit (value_of c.args.a) t) c.negated.ensures.exact
 
 pub returns-clause-exact : goal.returns-clause-exact
 unfolding ◌-ℚ◌
 returns-clause-exact c =
     let P : Rational → Type 0 = λ t. IfSome c.add.result (λ r. value_of r ≡ value_of c.args.a +ℚ t) in
-    subst P c.negated.ensures c.add.ensures.exact
+    subst P c.negated.ensures.exact c.add.ensures.exact

@@ -1,13 +1,18 @@
-use Rattle.std.proofs.Common.{rules, ◌∙◌, ◌≡◌, nat_abs, FitsSigned, to_z-of_z}
+use Rattle.std.proofs.Common.{rules, sym, subst, ◌^◌, ◌∙◌, ◌≡◌, nat_abs, FitsSigned, to_z-of_z}
 use Rattle.std.specs.Int.{w128}
+use Rattle.npp_frac.specs.Fits.{FitsBelow}
+use Rattle.npp_frac.specs.NarrowLaws.{fits_64}
 use Rattle.npp_frac.specs.Narrow.{value_of_64}
 use Rattle.npp_frac.specs.Rational.{same_fields}
 use Rattle.npp_frac.proofs.frac64.Frac64.pair.Goals as goal
 
-pub returns : goal.returns
+pub returns-clause-value : goal.returns-clause-value
 unfolding value_of_64
-returns c =
+returns-clause-value c =
     let num : FitsSigned w128 c.from.result = search rules in
     let is : c.from.result ≡ c.args.self.num = search (rules, to_z-of_z) in
     let den : c.from-2.result ≡ nat_abs c.args.self.den = search (rules, to_z-of_z) in
     same_fields _ _ (to_z-of_z num ∙ is) den
+
+pub returns-clause-below : goal.returns-clause-below
+returns-clause-below c = subst (FitsBelow (2 ^ 63)) (sym (returns-clause-value c)) (fits_64 c.args.self)

@@ -4,8 +4,8 @@ use Rattle.std.specs.Int.{w128}
 use Rattle.npp_frac.specs.Gcd.{gcd}
 use Rattle.npp_frac.specs.Reduction.{product_value, product_reduced, abs_product}
 use Rattle.npp_frac.specs.Value.{value_of}
-use Rattle.npp_frac.proofs.arithmetic.product.Goals as goal
-use Rattle.npp_frac.proofs.arithmetic.product.Goals.{In_ok-den}
+use Rattle.npp_frac.proofs.arithmetic.fraction_product.Goals as goal
+use Rattle.npp_frac.proofs.arithmetic.fraction_product.Goals.{In_ok-den}
 
 numerator : (c : In_ok-den) → to_z w128 (of_z w128 c.in_ok-num.num) ≡ int_div c.args.a.num (pos (gcd (nat_abs c.args.a.num) c.args.b.den)) *ℤ int_div c.args.b.num (pos (gcd (nat_abs c.args.b.num) c.args.a.den))
 numerator c =

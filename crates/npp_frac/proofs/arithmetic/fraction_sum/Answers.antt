@@ -6,8 +6,8 @@ use Rattle.npp_frac.specs.Rational.{ratio}
 use Rattle.npp_frac.specs.Reduction.{ratio-sum, quotient_pos_left}
 use Rattle.npp_frac.specs.SumGcd.{gcd-sum}
 use Rattle.npp_frac.specs.Value.{value_of}
-use Rattle.npp_frac.proofs.arithmetic.sum.Goals as goal
-use Rattle.npp_frac.proofs.arithmetic.sum.Goals.{In_ok-den}
+use Rattle.npp_frac.proofs.arithmetic.fraction_sum.Goals as goal
+use Rattle.npp_frac.proofs.arithmetic.fraction_sum.Goals.{In_ok-den}
 
 a_is : (c : In_ok-den) → c.divided-a_den.result * c.gcd-g.result ≡ c.args.a.den
 a_is c = ap (λ t. t * c.gcd-g.result) c.divided-a_den.ensures.exact ∙ div-mul_cancel _ (rw c.gcd-g.ensures.exact (IsGcd-gcd c.args.a.den c.args.b.den).0)
