@@ -1,11 +1,15 @@
 // The lexicographic simplex on a generated program, written in Rust over the rule of the crate `npp_frac`, to compare
-// times and answers with `npp_bench`. On standard error it tells the updates: how often a number lost a product that is
-// not 0.
+// times and answers with `npp_bench`. On standard error it tells the updates, how often a number lost a product that is
+// not 0, and the rows that had them.
+//
+// With arguments STRIDE and REPEAT (1 where it is left out) it prints instead the triples `a b c` of each update
+// `a - b * c` in each STRIDE-th of these rows, as a line `triples WIDTH REPEAT n d n d ..` of the input of `npp_bench`.
 
 mod rule;
 
 use rule::{Fraction, gcd, product, sum};
-use std::io::{self, BufRead};
+use std::env;
+use std::io::{self, BufRead, Write};
 
 const ZERO: Fraction = Fraction { num: 0, den: 1 };
 const ONE: Fraction = Fraction { num: 1, den: 1 };
@@ -90,6 +94,22 @@ fn program(rows: u32, columns: u32, most: u32) -> Program {
 struct Run {
     pivots: u64,
     updates: u64,
+    rows: u64,
+    // Each row whose number this divides is listed, or none.
+    stride: Option<u64>,
+    triples: Vec<[Fraction; 3]>,
+}
+
+impl Run {
+    fn of(stride: Option<u64>) -> Run {
+        Run { pivots: 0, updates: 0, rows: 0, stride, triples: Vec::new() }
+    }
+
+    // Counts a row that is reduced, and whether it is listed.
+    fn is_listed(&mut self) -> bool {
+        self.rows += 1;
+        self.stride.is_some_and(|stride| self.rows % stride == 0)
+    }
 }
 
 // The places of a tableau: a row for each of the program and two goal rows, and a column for each of the program and each
@@ -181,8 +201,8 @@ impl Tableau {
         Some(rows[0])
     }
 
-    // A pivot, and how many updates it made, or None where a number does not fit.
-    fn pivot(&mut self, row: usize, column: usize, limit: u128) -> Option<u64> {
+    // A pivot, counted in the run, or None where a number does not fit.
+    fn pivot(&mut self, row: usize, column: usize, limit: u128, run: &mut Run) -> Option<()> {
         let divisor = self.at(row, column);
         let mut divided = Vec::new();
         for j in 0..self.width() {
@@ -192,20 +212,22 @@ impl Tableau {
                 divided.push((j, number));
             }
         }
-        let mut updates = 0;
         for i in 0..self.rows + 2 {
             let factor = self.at(i, column);
             if i == row || factor.num == 0 {
                 continue;
             }
+            if run.is_listed() {
+                run.triples.extend(divided.iter().map(|(j, number)| [self.at(i, *j), factor, *number]));
+            }
             for (j, number) in &divided {
                 let difference = sum(self.at(i, *j), negated(product(factor, *number, limit)?), limit)?;
                 self.set(i, *j, difference);
             }
-            updates += divided.len() as u64;
+            run.updates += divided.len() as u64;
         }
         self.basis[row] = column;
-        Some(updates)
+        Some(())
     }
 
     fn drop_extra(&mut self) {
@@ -231,7 +253,7 @@ fn solve(p: &Program, limit: u128, run: &mut Run) -> Option<Fraction> {
         let row = t.leaving(stage, column, rows, limit)?;
         let left = t.basis[row];
         run.pivots += 1;
-        run.updates += t.pivot(row, column, limit)?;
+        t.pivot(row, column, limit, run)?;
         if stage == Stage::Entry {
             stage = Stage::PhaseOne;
         } else if stage == Stage::PhaseOne && left == t.extra() {
@@ -242,16 +264,32 @@ fn solve(p: &Program, limit: u128, run: &mut Run) -> Option<Fraction> {
     (stage == Stage::PhaseTwo).then(|| negated(t.at(t.rows + 1, t.right())))
 }
 
-fn main() {
+fn print_triples(width: u32, repeat: u64, triples: &[[Fraction; 3]]) -> io::Result<()> {
+    let mut output = io::BufWriter::new(io::stdout().lock());
+    write!(output, "triples {width} {repeat}")?;
+    for number in triples.iter().flatten() {
+        write!(output, " {} {}", number.num, number.den)?;
+    }
+    writeln!(output)
+}
+
+fn main() -> io::Result<()> {
+    let arguments: Vec<u64> = env::args().skip(1).map(|word| word.parse().unwrap()).collect();
     for line in io::stdin().lock().lines() {
-        let words: Vec<u32> = line.unwrap().split_whitespace().skip(1).map(|word| word.parse().unwrap()).collect();
+        let words: Vec<u32> = line?.split_whitespace().skip(1).map(|word| word.parse().unwrap()).collect();
         let (width, rows, columns, most) = (words[0], words[1], words[2], words[3]);
-        let mut run = Run { pivots: 0, updates: 0 };
-        let end = match solve(&program(rows, columns, most), 1 << (width - 1), &mut run) {
+        let mut run = Run::of(arguments.first().copied());
+        let value = solve(&program(rows, columns, most), 1 << (width - 1), &mut run);
+        if run.stride.is_some() {
+            print_triples(width, arguments.get(1).copied().unwrap_or(1), &run.triples)?;
+            continue;
+        }
+        let end = match value {
             Some(value) => format!("{} pivots, optimal {}/{}", run.pivots, value.num, value.den),
             None => "no optimum".into(),
         };
         println!("width {width} rows {rows} columns {columns} most {most}: {end}");
-        eprintln!("{} updates", run.updates);
+        eprintln!("{} updates {} rows", run.updates, run.rows);
     }
+    Ok(())
 }

@@ -4,12 +4,15 @@
 //! of a length in bits, 0 for whole numbers, and prints a sum of the numbers of the answers. A line
 //! `dual ROWS COLUMNS NONZERO` checks a dual answer with so many multipliers above 0, and prints its value. A line
 //! `simplex WIDTH ROWS COLUMNS MOST` runs the simplex on a generated program, and prints the pivots and the greatest goal.
+//! A line `triples WIDTH REPEAT n d n d ..` takes `a - b * c` of the listed triples `a b c`, a numerator and a denominator
+//! for each number, as often as REPEAT says, and prints how many they are and the same kind of sum.
 #![tactic(auto)]
 
 mod dual;
 mod interval;
 mod pass;
 mod simplex;
+mod triples;
 
 use dual::checked;
 use npp_frac::{Exact, Frac32, Frac64, Frac128};
@@ -17,6 +20,7 @@ use pass::pass;
 use simplex::solved;
 use std::alloc::Global;
 use std::io;
+use triples::replay;
 
 /// The three numbers of a line.
 fn numbers(line: &str) -> Option<(u32, u32, u32)> {
@@ -40,6 +44,10 @@ fn main(rt: HostRuntime) -> io::Result<()> {
         }
         if let Some(sizes) = line.strip_prefix("simplex 128 ") {
             print_simplex::<Frac128>(&rt, rt.alloc(), 128, sizes)?;
+            continue;
+        }
+        if let Some(list) = line.strip_prefix("triples ") {
+            print_triples(&rt, rt.alloc(), list)?;
             continue;
         }
         let Some((width, bits, count)) = numbers(line.as_str()) else {
@@ -81,5 +89,22 @@ fn print_simplex<N: Exact>(
     println!(rt;
         "width {width} rows {rows} columns {columns} most {most}: {} pivots, optimal {}/{}",
         end.pivots, end.num, end.den
+    )
+}
+
+/// Takes the triples that a line lists.
+fn print_triples(rt: &impl Print, alloc: Global, list: &str) -> io::Result<()> {
+    let answer = match list.split_once(' ') {
+        Some(("32", list)) => replay::<Frac32>(alloc, list)?,
+        Some(("64", list)) => replay::<Frac64>(alloc, list)?,
+        Some(("128", list)) => replay::<Frac128>(alloc, list)?,
+        _ => None,
+    };
+    let Some(replay) = answer else {
+        return println!(rt; "width, repeats and the numbers of triples are wanted");
+    };
+    println!(rt;
+        "width {} triples {} repeated {}: {}",
+        replay.width, replay.count, replay.repeat, replay.sum
     )
 }

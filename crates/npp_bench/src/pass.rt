@@ -62,8 +62,10 @@ fn cells<N: Exact>(a: N, b: N, values: &[N], start: i128) -> i128 {
     sum
 }
 
-/// The numerator and the denominator of `a - b * c`, added.
-fn cell<N: Exact>(a: N, b: N, c: N) -> i128 {
+/// The numerator and the denominator of `a - b * c`, added, or 1 where it is refused. It is inlined, so that no call of it
+/// takes a part of what is timed.
+#[inline(always)]
+pub fn cell<N: Exact>(a: N, b: N, c: N) -> i128 {
     let Ok(product) = b.mul(c) else {
         return 1;
     };

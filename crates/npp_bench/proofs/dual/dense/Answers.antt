@@ -1,4 +1,4 @@
-use Rattle.std.proofs.Common.{◌+◌, List, [], ◌∷◌, ◌++◌, Vec, sym, ◌∙◌, subst, arith, All}
+use Rattle.std.proofs.Common.{List, [], ◌∷◌, ◌++◌, Vec, sym, ◌∙◌, subst, arith, All}
 use Rattle.std.proofs.lemmas.Int.{ints}
 use Rattle.std.specs.Global.{Global}
 use Rattle.npp_frac.specs.declared.frac64.Frac64.{Frac64}

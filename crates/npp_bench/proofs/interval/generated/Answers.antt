@@ -1,6 +1,4 @@
-use Rattle.std.proofs.Common.{◌+◌, List, [], ◌∷◌, ◌++◌, Vec, sym, ◌∙◌, subst, arith, All}
-use Rattle.std.specs.Global.{Global}
-use Rattle.npp_lp.specs.declared.program.Entry.{Entry}
+use Rattle.std.proofs.Common.{[], ◌∷◌, ◌++◌, sym, ◌∙◌, subst, arith, All}
 use Rattle.npp_lp.specs.Programs.{Row, AreTerms}
 use Rattle.npp_lp.specs.Meaning.{rows_of}
 use Rattle.npp_lp.specs.GrowLaws.{rows_push}
