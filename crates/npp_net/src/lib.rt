@@ -14,6 +14,7 @@ mod types;
 mod walk;
 
 pub use instance::Instance;
+pub use limits::{MAX_ARCS, MAX_COMMODITIES, MAX_NODES, MAX_NUMBER, MAX_TOLLS};
 pub use refusal::NetRefusal;
 pub use toll_set::TollSet;
 pub use types::{ArcId, Commodity, Memory, NetArc, NodeId, Span, TollId, Tolls, Walk};

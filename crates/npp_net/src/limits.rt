@@ -8,19 +8,19 @@ use crate::refusal::NetRefusal;
 use crate::types::{Commodity, NetArc};
 
 /// The most nodes of an instance.
-const MAX_NODES: u32 = 1000;
+pub const MAX_NODES: u32 = 1000;
 
 /// The most arcs of an instance, toll arcs and toll-free arcs together.
-const MAX_ARCS: usize = 5000;
+pub const MAX_ARCS: usize = 5000;
 
 /// The most toll arcs of an instance.
-const MAX_TOLLS: usize = 64;
+pub const MAX_TOLLS: usize = 64;
 
 /// The most commodities of an instance.
-const MAX_COMMODITIES: usize = 100;
+pub const MAX_COMMODITIES: usize = 100;
 
 /// The greatest cost and the greatest demand.
-const MAX_NUMBER: u32 = 1_000_000;
+pub const MAX_NUMBER: u32 = 1_000_000;
 
 /// The first refusal of all, if there is one.
 pub fn refused(nodes: u32, arcs: &[NetArc], commodities: &[Commodity]) -> Option<NetRefusal>

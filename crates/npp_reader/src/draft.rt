@@ -15,21 +15,11 @@ use crate::line::{is_utf8, next_field, one_field};
 use crate::link::{Link, link_of};
 use crate::names::Names;
 use crate::refusal::Fault;
-use npp_net::{Commodity, Instance, NetArc, NetRefusal};
+use npp_net::{
+    Commodity, Instance, MAX_ARCS, MAX_COMMODITIES, MAX_NODES, MAX_TOLLS, NetArc, NetRefusal,
+};
 use std::alloc::Global;
 use std::marker::Model;
-
-/// The most nodes of an instance.
-const MAX_NODES: usize = 1000;
-
-/// The most arcs of an instance, toll arcs and toll-free arcs together.
-const MAX_ARCS: usize = 5000;
-
-/// The most toll arcs of an instance.
-const MAX_TOLLS: usize = 64;
-
-/// The most commodities of an instance.
-const MAX_COMMODITIES: usize = 100;
 
 /// What the lines so far declare.
 #[derive(Drop)]
@@ -135,7 +125,7 @@ impl Draft {
         if self.names.find(name).is_some() {
             return Err(Fault::Kind(LineKind::RepeatedNode));
         }
-        if self.names.len() >= MAX_NODES {
+        if self.names.len() >= MAX_NODES as usize {
             return Err(Fault::Kind(LineKind::TooManyNodes));
         }
         self.names.push(alloc, name)?;

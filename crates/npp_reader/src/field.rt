@@ -8,15 +8,13 @@ ghost use Rattle.npp_reader.specs.Fields as fields;
 ghost use Rattle.npp_reader.specs.Grammar as grammar;
 
 use crate::kind::LineKind;
+use npp_net::MAX_NUMBER;
 
 /// The most bytes of a name.
 const MAX_NAME: usize = 32;
 
 /// The most digits of a number, leading zeros included.
 const MAX_DIGITS: usize = 18;
-
-/// The greatest cost and the greatest demand.
-const MAX_NUMBER: u64 = 1_000_000;
 
 fn is_name_byte(byte: u8) -> bool
     ensures { result ≡ fields.is_name_byte byte }
@@ -85,7 +83,7 @@ pub(crate) fn number_of(field: &[u8]) -> Result<u32, LineKind>
         return Err(LineKind::BadNumber);
     }
     let value = value_of(field);
-    if value > MAX_NUMBER {
+    if value > u64::from(MAX_NUMBER) {
         return Err(LineKind::NumberTooLarge);
     }
     Ok(value as u32)
