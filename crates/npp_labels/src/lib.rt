@@ -1,4 +1,4 @@
-//! The useful labels of a commodity, by a best-first search, as a cover.
+//! The useful labels of a commodity, by a best-first search, as a cover, and the covers of all commodities, in order.
 #![tactic(auto)]
 
 mod best_first;
