@@ -1,9 +1,10 @@
 //! The labels at each node.
 
-ghost use Rattle.std.specs.Prelude.{◌<◌, All, IfOk, []};
+ghost use Rattle.std.specs.Prelude.{◌<◌, All, IfOk};
 ghost use Rattle.npp_cover.specs.Index.{AreByNode};
 
 use crate::label::Label;
+use npp_net::empty_lists;
 use std::alloc::{AllocError, Global};
 
 /// For each node its labels, in order.
@@ -18,16 +19,6 @@ pub(crate) fn labels_by_node(
     let mut lists = empty_lists(alloc, nodes)?;
     for label in labels {
         lists[label.node.0 as usize].push(*label)?;
-    }
-    Ok(lists)
-}
-
-fn empty_lists(alloc: Global, nodes: u32) -> Result<Vec<Vec<Label>>, AllocError>
-    ensures { IfOk result (λ v. AreByNode [] nodes v.items) }
-{
-    let mut lists = Vec::new(alloc);
-    while lists.len() < nodes as usize {
-        lists.push(Vec::new(alloc))?;
     }
     Ok(lists)
 }

@@ -1,9 +1,10 @@
 //! The arcs at each node.
 
-ghost use Rattle.std.specs.Prelude.{◌≡◌, ◌<◌, ◌≤◌, ℕ, length, All, IfOk, []};
+ghost use Rattle.std.specs.Prelude.{◌≡◌, ◌<◌, ◌≤◌, ℕ, length, All, IfOk};
 ghost use Rattle.npp_net.specs.Network.{IsArc};
 ghost use Rattle.npp_net.specs.Ends.{AreArcsAt, end_of};
 
+use crate::lists::empty_lists;
 use crate::types::{ArcId, NetArc};
 use std::alloc::{AllocError, Global};
 
@@ -27,7 +28,7 @@ pub fn arcs_at(
     requires limits { All (IsArc nodes) arcs.now }
     ensures { IfOk result (λ v. AreArcsAt end arcs.now (length arcs.now) nodes v.items) }
 {
-    let mut lists = empty_lists(alloc, nodes, end)?;
+    let mut lists = empty_lists(alloc, nodes)?;
     for (i, x) in arcs.iter().enumerate() {
         let node = node_at(nodes, *x, end);
         lists[node].push(ArcId(i as u32))?;
@@ -45,15 +46,4 @@ fn node_at(nodes: u32, x: NetArc, end: End) -> usize
         End::Tail => x.tail.0 as usize,
         End::Head => x.head.0 as usize,
     }
-}
-
-fn empty_lists(alloc: Global, nodes: u32, end: End) -> Result<Vec<Vec<ArcId>>, AllocError>
-    ensures { IfOk result (λ v. AreArcsAt end [] 0 nodes v.items) }
-{
-    let mut lists = Vec::new(alloc);
-    for node in 0..nodes {
-        let _ = (node, end);
-        lists.push(Vec::new(alloc))?;
-    }
-    Ok(lists)
 }

@@ -6,6 +6,7 @@ mod ends;
 mod index;
 mod instance;
 mod limits;
+mod lists;
 mod refusal;
 #[cfg(test)]
 mod tests;
@@ -15,6 +16,7 @@ mod walk;
 
 pub use instance::Instance;
 pub use limits::{MAX_ARCS, MAX_COMMODITIES, MAX_NODES, MAX_NUMBER, MAX_TOLLS};
+pub use lists::empty_lists;
 pub use refusal::NetRefusal;
 pub use toll_set::TollSet;
 pub use types::{ArcId, Commodity, Memory, NetArc, NodeId, Span, TollId, Tolls, Walk};
