@@ -18,7 +18,7 @@ use Rattle.npp_simplex.proofs.LexLemmas.{IsLexBelow_trans, IsLexBelow_irrefl}
 use Rattle.npp_simplex.proofs.LexStarts.{some_right_negative}
 use Rattle.npp_simplex.proofs.LexTurns.{key_numbers_same, goal_falls}
 use Rattle.npp_simplex.proofs.RowStarts.{first_slacks}
-use Rattle.npp_simplex.proofs.RowTurns.{without_other}
+use Rattle.npp_simplex.proofs.KeptRows.{without_other}
 use Rattle.npp_simplex.proofs.SameBasis.{same_goal_rows, slacks_not_again}
 use Rattle.npp_simplex.proofs.Reached.{IsReachedAt, IsReached, first_cell_without}
 use Rattle.npp_simplex.proofs.ReachedNext.{IsPivot, pivot_one, pivot_two}

@@ -30,6 +30,7 @@ pub mod Unread
 pub mod Invariant
 pub mod CellLaws
 pub mod FirstCells
+pub mod KeptRows
 pub mod RowTurns
 pub mod RowStarts
 -- ---- the lexicographic order

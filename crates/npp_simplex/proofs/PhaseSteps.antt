@@ -6,7 +6,8 @@ use Rattle.npp_frac.specs.Rational.{Rational, zero_ℚ}
 use Rattle.npp_simplex.specs.Tableau.{Tableau, cell, pivoted, without_extra}
 use Rattle.npp_simplex.proofs.CellLaws.{cell_of_pivoted, cell_of_without, basis_of_turned}
 use Rattle.npp_simplex.proofs.Invariant.{AreRows, IsGoalRow, turned_cell, turned_basis, without, IsLexPositive, ArePositive}
-use Rattle.npp_simplex.proofs.RowTurns.{AreRows-same, IsGoalRow-same, AreRows-agree, IsGoalRow-agree, IsExtraRow-same, AreRows-turned, IsGoalRow-turned, IsExtraRow-turned, AreRows-without, IsGoalRow-without, basis_here, basis_other, without_other}
+use Rattle.npp_simplex.proofs.KeptRows.{AreRows-same, IsGoalRow-same, AreRows-agree, IsGoalRow-agree, IsExtraRow-same, AreRows-without, IsGoalRow-without, without_other}
+use Rattle.npp_simplex.proofs.RowTurns.{AreRows-turned, IsGoalRow-turned, IsExtraRow-turned, basis_here, basis_other}
 use Rattle.npp_simplex.proofs.LexLemmas.{key_numbers_besides}
 use Rattle.npp_simplex.proofs.Directions.{basis_different}
 use Rattle.npp_simplex.proofs.Reached.{IsSized, IsInPhaseOne, IsInPhaseTwo}

@@ -9,7 +9,7 @@ use Rattle.npp_simplex.specs.Tableau.{Tableau, cell}
 use Rattle.npp_simplex.specs.Run.{first_cell}
 use Rattle.npp_simplex.proofs.Invariant.{AreRows, IsGoalRow, ArePositive, without}
 use Rattle.npp_simplex.proofs.Directions.{basis_different}
-use Rattle.npp_simplex.proofs.RowTurns.{without_other}
+use Rattle.npp_simplex.proofs.KeptRows.{without_other}
 use Rattle.npp_simplex.proofs.FirstCells.{cell_of_column, cell_of_right, cell_of_goal, cell_beside_goal, slack_nonneg}
 
 -- the cells from which the rows of phase two come

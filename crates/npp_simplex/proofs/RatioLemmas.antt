@@ -97,8 +97,9 @@ some_lowest number x (y ∷ xs) =
 some_row : (xs : List ℕ) (i : ℕ) → Contains xs i → 0 < length xs
 some_row xs i h = omega (arith, h.1)
 
-pub some_least_row : (number : ℕ → Rational) (x : ℕ) (xs : List ℕ) → 0 < length (least_rows number (x ∷ xs))
-some_least_row number x xs =
+pub some_least_row : (number : ℕ → Rational) (rows : List ℕ) → 0 < length rows → 0 < length (least_rows number rows)
+some_least_row number [] l = absurd (omega (arith, l))
+some_least_row number (x ∷ xs) l =
     let k = some_lowest number x xs in
     some_row (least_rows number (x ∷ xs)) k.0 (member_kept (lowest_test number (x ∷ xs)) (x ∷ xs) k.0 k.1 (test_of_lowest number (x ∷ xs) k.0 k.2))
 
@@ -132,7 +133,7 @@ module _ (number : ℕ → ℕ → Rational) where
   refined_is [] (i ∷ j ∷ rows) l = record { member = first_member i (j ∷ rows); least = λ x here below. below }
   refined_is (k ∷ ks) (i ∷ j ∷ rows) l =
       least_before k ks (i ∷ j ∷ rows) (slice_index (refined number ks (least_rows (number k) (i ∷ j ∷ rows))) 0)
-      (refined_is ks (least_rows (number k) (i ∷ j ∷ rows)) (some_least_row (number k) i (j ∷ rows)))
+      (refined_is ks (least_rows (number k) (i ∷ j ∷ rows)) (some_least_row (number k) (i ∷ j ∷ rows) (omega arith)))
 
 not_empty : (xs : List ℕ) → xs ≢ [] → 0 < length xs
 not_empty [] h = absurd (h refl)

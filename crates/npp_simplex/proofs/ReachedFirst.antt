@@ -9,7 +9,7 @@ use Rattle.npp_simplex.specs.Run.{has_phase_one, first_cell, first_tableau, firs
 use Rattle.npp_simplex.proofs.Starting.{one_apart}
 use Rattle.npp_simplex.proofs.CellLaws.{cell_of_first, cell_of_pivoted, basis_of_turned}
 use Rattle.npp_simplex.proofs.Invariant.{AreRows, IsGoalRow, IsExtraRow, turned_cell, turned_basis, ArePositive}
-use Rattle.npp_simplex.proofs.RowTurns.{AreRows-same, IsGoalRow-same, IsExtraRow-same}
+use Rattle.npp_simplex.proofs.KeptRows.{AreRows-same, IsGoalRow-same, IsExtraRow-same}
 use Rattle.npp_simplex.proofs.RowStarts.{AreRows-first, IsGoalRow-first, IsExtraRow-entered, first_slacks, first_goals, first_extra_rows, first_extra_goal, first_without}
 use Rattle.npp_simplex.proofs.LexStarts.{ArePositive-first, no_right_negative}
 use Rattle.npp_simplex.proofs.LexTurns.{ArePositive-same}

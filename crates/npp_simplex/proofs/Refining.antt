@@ -1,7 +1,6 @@
 -- The lexicographic comparison, key by key.
-use Rattle.std.proofs.Common.{◌≡◌, ℕ, suc, ◌+◌, ◌-◌, ◌<◌, ◌≤◌, List, [], ◌∷◌, ◌++◌, length, take, drop, slice_index, Option, Some, None, Result, Ok, Err, IfOk, IfErr, arith, ap, sym, ◌∙◌, refl, subst}
+use Rattle.std.proofs.Common.{◌≡◌, ℕ, suc, ◌+◌, ◌-◌, ◌<◌, ◌≤◌, List, [], ◌∷◌, length, slice_index, Option, Some, None, Result, Ok, Err, IfOk, arith, ap, sym, ◌∙◌, refl, subst}
 use Rattle.std.specs.List.{range_with_len, list_all}
-use Rattle.std.proofs.lemmas.List.{get_or-take, length-take-le, take-append-le, length-append}
 use Rattle.std.proofs.lemmas.List.Elements.{All-filter}
 use Rattle.std.specs.Prelude.{not}
 use Rattle.npp_frac.specs.Rational.{Rational, is_less}
@@ -12,14 +11,14 @@ use Rattle.npp_simplex.specs.Tableau.{Tableau}
 use Rattle.npp_simplex.specs.Ratio.{compared, refined, least_rows}
 use Rattle.npp_simplex.specs.Places.{quotients_stop, ratio_stop}
 use Rattle.npp_simplex.specs.Meaning.{IsCandidate, AreCandidates}
-use Rattle.npp_simplex.proofs.Comparing.{candidate_at}
+use Rattle.npp_simplex.proofs.RatioLemmas.{some_least_row}
 
-pub range_next : (a e : ℕ) → a < e → range_with_len a (e - a) ≡ a ∷ range_with_len (a + 1) (e - (a + 1))
+range_next : (a e : ℕ) → a < e → range_with_len a (e - a) ≡ a ∷ range_with_len (a + 1) (e - (a + 1))
 range_next a e l =
     let size : e - a ≡ suc (e - (a + 1)) = omega arith in
     ap (range_with_len a) size
 
-pub range_done : (a e : ℕ) → e ≤ a → range_with_len a (e - a) ≡ []
+range_done : (a e : ℕ) → e ≤ a → range_with_len a (e - a) ≡ []
 range_done a e l = let size : e - a ≡ 0 = omega arith in ap (range_with_len a) size
 
 module _ (number : ℕ → ℕ → Rational) where
@@ -62,57 +61,59 @@ module _ (limit : Option ℕ) (s : Stage) (t : Tableau) (c : ℕ) where
   stop_step k ks (i ∷ []) l = absurd (omega arith)
   stop_step k ks (i ∷ j ∷ rows) l = refl
 
-  -- the first rows of xs and the keys ks are where a comparison stands that began with these rows and keys
-  pub record StandsAt (keys rows ks xs : List ℕ) (n : ℕ) : Type 0 where
-    pub some : 0 < n
-    pub within : n ≤ length xs
-    pub candidates : AreCandidates t c (take n xs)
-    pub rest : refined (compared s t c) ks (take n xs) ≡ refined (compared s t c) keys rows
-    pub stop : ratio_stop limit s t c ks (take n xs) ≡ ratio_stop limit s t c keys rows
+  -- the rows that are left and the keys ks are where a comparison stands that began with these rows and keys
+  pub record StandsAt (keys rows ks left : List ℕ) : Type 0 where
+    pub some : 0 < length left
+    pub candidates : AreCandidates t c left
+    pub rest : refined (compared s t c) ks left ≡ refined (compared s t c) keys rows
+    pub stop : ratio_stop limit s t c ks left ≡ ratio_stop limit s t c keys rows
 
-  pub begins : (keys xs : List ℕ) (n : ℕ) → 0 < n → n ≤ length xs → AreCandidates t c (take n xs) → StandsAt keys (take n xs) keys xs n
-  begins keys xs n some within h = record { some = some; within = within; candidates = h; rest = refl; stop = refl }
+  pub begins : (keys rows : List ℕ) → 0 < length rows → AreCandidates t c rows → StandsAt keys rows keys rows
+  begins keys rows some h = record { some = some; candidates = h; rest = refl; stop = refl }
 
-  -- the rows are compared at one more key: zs is the front of the list then
-  pub more_keys : (keys rows ks xs zs : List ℕ) (k n m : ℕ) → StandsAt keys rows (k ∷ ks) xs n → 2 ≤ n → 0 < m → m ≤ length (take n xs) → length zs ≡ length (take n xs)
-      → take m zs ≡ least_rows (compared s t c k) (take n xs) → quotients_stop limit s t c k (take n xs) ≡ None → StandsAt keys rows ks (zs ++ drop n xs) m
-  more_keys keys rows ks xs zs k n m h two some within long front fits =
-      let size : 2 ≤ length (take n xs) = rw (length-take-le n xs h.within) two in
-      let is : take m (zs ++ drop n xs) ≡ least_rows (compared s t c k) (take n xs) = take-append-le m zs (drop n xs) (omega arith) ∙ front in
-      record {
-        some = some;
-        within = omega (arith, length-append zs (drop n xs));
-        candidates = subst (AreCandidates t c) (sym is) (All-filter (λ i. list_all (λ j. not (is_less (compared s t c k j) (compared s t c k i))) (take n xs)) (IsCandidate t c) (take n xs) h.candidates);
-        rest = ap (refined (compared s t c) ks) is ∙ sym (refined_step (compared s t c) k ks (take n xs) size) ∙ h.rest;
-        stop = ap (ratio_stop limit s t c ks) is
-            ∙ sym (stop_step k ks (take n xs) size ∙ or_else_none (quotients_stop limit s t c k (take n xs)) (ratio_stop limit s t c ks (least_rows (compared s t c k) (take n xs))) fits) ∙ h.stop;
-      }
+  -- keys from a up to e are left: a and the later ones, or none
+  pub next_key : (keys rows left : List ℕ) (a e : ℕ) → a < e → StandsAt keys rows (range_with_len a (e - a)) left → StandsAt keys rows (a ∷ range_with_len (a + 1) (e - (a + 1))) left
+  next_key keys rows left a e l h = subst (λ ks. StandsAt keys rows ks left) (range_next a e l) h
 
-  pub stops_here : (keys rows ks xs : List ℕ) (k n : ℕ) (p : Place) → StandsAt keys rows (k ∷ ks) xs n → 2 ≤ n → quotients_stop limit s t c k (take n xs) ≡ Some p → ratio_stop limit s t c keys rows ≡ Some p
-  stops_here keys rows ks xs k n p h two found =
-      let size : 2 ≤ length (take n xs) = rw (length-take-le n xs h.within) two in
-      sym h.stop ∙ stop_step k ks (take n xs) size ∙ or_else_some (quotients_stop limit s t c k (take n xs)) (ratio_stop limit s t c ks (least_rows (compared s t c k) (take n xs))) p found
+  pub no_key : (keys rows left : List ℕ) (a e : ℕ) → e ≤ a → StandsAt keys rows (range_with_len a (e - a)) left → StandsAt keys rows [] left
+  no_key keys rows left a e l h = subst (λ ks. StandsAt keys rows ks left) (range_done a e l) h
+
+  -- the rows are compared at one more key
+  pub more_keys : (keys rows ks left fewer : List ℕ) (k : ℕ) → StandsAt keys rows (k ∷ ks) left → 2 ≤ length left → fewer ≡ least_rows (compared s t c k) left → quotients_stop limit s t c k left ≡ None → StandsAt keys rows ks fewer
+  more_keys keys rows ks left fewer k h two is fits = record {
+    some = subst (λ l. 0 < length l) (sym is) (some_least_row (compared s t c k) left h.some);
+    candidates = subst (AreCandidates t c) (sym is) (All-filter (λ i. list_all (λ j. not (is_less (compared s t c k j) (compared s t c k i))) left) (IsCandidate t c) left h.candidates);
+    rest = ap (refined (compared s t c) ks) is ∙ sym (refined_step (compared s t c) k ks left two) ∙ h.rest;
+    stop = ap (ratio_stop limit s t c ks) is
+        ∙ sym (stop_step k ks left two ∙ or_else_none (quotients_stop limit s t c k left) (ratio_stop limit s t c ks (least_rows (compared s t c k) left)) fits) ∙ h.stop;
+  }
+
+  pub stops_here : (keys rows ks left : List ℕ) (k : ℕ) (p : Place) → StandsAt keys rows (k ∷ ks) left → 2 ≤ length left → quotients_stop limit s t c k left ≡ Some p → ratio_stop limit s t c keys rows ≡ Some p
+  stops_here keys rows ks left k p h two found =
+      sym h.stop ∙ stop_step k ks left two ∙ or_else_some (quotients_stop limit s t c k left) (ratio_stop limit s t c ks (least_rows (compared s t c k) left)) p found
+
+  -- a comparison ends with this row and without a fault
+  pub record EndsAt (keys rows : List ℕ) (r : ℕ) : Type 0 where
+    pub fits : ratio_stop limit s t c keys rows ≡ None
+    pub row : r ≡ slice_index (refined (compared s t c) keys rows) 0
+    pub candidate : IsCandidate t c r
 
   -- one row remains
-  pub one_remains : (keys rows ks xs : List ℕ) (n : ℕ) → StandsAt keys rows ks xs n → n < 2 → (ratio_stop limit s t c keys rows ≡ None) × (slice_index xs 0 ≡ slice_index (refined (compared s t c) keys rows) 0)
-  one_remains keys rows ks xs n h one =
-      let size : length (take n xs) < 2 = rw (length-take-le n xs h.within) one in
-      (sym h.stop ∙ stop_one ks (take n xs) size, sym (get_or-take n xs 0 0 h.some) ∙ sym (refined_one (compared s t c) ks (take n xs) size) ∙ ap (λ l. slice_index l 0) h.rest)
+  pub one_remains : (keys rows ks left : List ℕ) (r : ℕ) → StandsAt keys rows ks left → length left < 2 → slice_index left 0 ≡ r → EndsAt keys rows r
+  one_remains keys rows ks left r h one is = record {
+    fits = sym h.stop ∙ stop_one ks left one;
+    row = sym is ∙ sym (refined_one (compared s t c) ks left one) ∙ ap (λ l. slice_index l 0) h.rest;
+    candidate = subst (IsCandidate t c) is (h.candidates 0 0 h.some);
+  }
 
   -- no key is left
-  pub keys_done : (keys rows ks xs : List ℕ) (n : ℕ) → StandsAt keys rows ks xs n → ks ≡ [] → (ratio_stop limit s t c keys rows ≡ None) × (slice_index xs 0 ≡ slice_index (refined (compared s t c) keys rows) 0)
-  keys_done keys rows ks xs n h none = (
-    sym h.stop ∙ ap (λ l. ratio_stop limit s t c l (take n xs)) none ∙ stop_end (take n xs),
-    sym (get_or-take n xs 0 0 h.some) ∙ sym (ap (λ l. slice_index (refined (compared s t c) l (take n xs)) 0) none ∙ refined_end (compared s t c) (take n xs)) ∙ ap (λ l. slice_index l 0) h.rest,
-  )
-
-  pub candidate_left : (keys rows ks xs : List ℕ) (n : ℕ) → StandsAt keys rows ks xs n → IsCandidate t c (slice_index xs 0)
-  candidate_left keys rows ks xs n h = candidate_at t c xs n 0 h.candidates h.some h.within
+  pub keys_done : (keys rows left : List ℕ) (r : ℕ) → StandsAt keys rows [] left → slice_index left 0 ≡ r → EndsAt keys rows r
+  keys_done keys rows left r h is = record {
+    fits = sym h.stop ∙ stop_end left;
+    row = sym is ∙ sym (refined_end (compared s t c) left) ∙ ap (λ l. slice_index l 0) h.rest;
+    candidate = subst (IsCandidate t c) is (h.candidates 0 0 h.some);
+  }
 
 pub if_ok : {T E : Type 0} (r : Result T E) (P Q : T → Type 0) → ((x : T) → P x → Q x) → IfOk r P → IfOk r Q
 if_ok (Ok x) P Q f h = f x h
 if_ok (Err e) P Q f h = h
-
-pub if_err : {T E : Type 0} (r : Result T E) (P Q : E → Type 0) → ((x : E) → P x → Q x) → IfErr r P → IfErr r Q
-if_err (Ok x) P Q f h = h
-if_err (Err e) P Q f h = f e h

@@ -8,7 +8,8 @@ use Rattle.npp_lp.specs.Programs.{LinearProgram, at}
 use Rattle.npp_simplex.specs.Run.{has_phase_one, extra_entry, first_cell}
 use Rattle.npp_simplex.proofs.Starting.{lt_true, lt_false}
 use Rattle.npp_simplex.proofs.Invariant.{AreRows, IsGoalRow, IsExtraRow, turned_cell, turned_basis, without}
-use Rattle.npp_simplex.proofs.RowTurns.{turned_here, turned_other, basis_here, without_here, without_other}
+use Rattle.npp_simplex.proofs.KeptRows.{without_here, without_other}
+use Rattle.npp_simplex.proofs.RowTurns.{turned_here, turned_other, basis_here}
 use Rattle.npp_simplex.proofs.Sums.{unit_swap, unit_shift, product_sum_same, product_sum_unit, product_sum_zero}
 
 -- ---- the first rows

@@ -67,9 +67,9 @@ pub record IsLeastOf (xs : List Rational) (q : Rational) : Type 0 where
   pub attained : (k : ℕ) × (k < length xs) × (at xs k ≡ q)
   pub bound : (k : ℕ) → k < length xs → q ≤ℚ at xs k
 
--- those of the first rows whose number is not above q
-abbrev pub rows_up_to : Rational → List Rational → ℕ → List ℕ → List ℕ
-rows_up_to q xs count rows = map (slice_index rows) (filter (λ k. not (is_less q (at xs k))) (range_with_len 0 count))
+-- those rows whose number is not above q
+abbrev pub rows_up_to : Rational → List Rational → List ℕ → List ℕ
+rows_up_to q xs rows = map (slice_index rows) (filter (λ k. not (is_less q (at xs k))) (range_with_len 0 (length rows)))
 
 -- what an answer says
 abbrev pub outcome_of : {N : Type 0} → (N → Rational) → Answer N → Outcome

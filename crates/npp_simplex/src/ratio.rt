@@ -75,27 +75,25 @@ pub fn compare_all<N: Exact>(
 }
 
 /// The least of some numbers.
-pub fn least<N: Exact>(numbers: &[N], count: usize) -> N
-    requires some { 0 < count }
-    requires count { count ≤ length numbers.now }
-    ensures { IsLeastOf (take count (map N.rational numbers.now)) (N.rational result) }
+pub fn least<N: Exact>(numbers: &[N]) -> N
+    requires some { 0 < length numbers.now }
+    ensures { IsLeastOf (map N.rational numbers.now) (N.rational result) }
 {
     let mut best = numbers[0];
-    for s in 1..count {
+    for s in 1..numbers.len() {
         best = lesser(best, numbers[s]);
     }
     best
 }
 
-/// Keeps those of the first candidates whose number is not above the best, and tells how many they are.
-pub fn keep<N: Exact>(candidates: &mut [u32], count: usize, numbers: &[N], best: N) -> usize
-    requires count { count ≤ length candidates.old }
-    requires numbers { count ≤ length numbers.now }
-    ensures within { result ≤ count }
-    ensures rows { take result candidates.new ≡ rows_up_to (N.rational best) (map N.rational numbers.now) count candidates.old }
+/// Moves those of the candidates whose number is not above the best to the front, and tells how many they are.
+pub fn keep<N: Exact>(candidates: &mut [u32], numbers: &[N], best: N) -> usize
+    requires lengths { length numbers.now ≡ length candidates.old }
+    ensures within { result ≤ length candidates.old }
+    ensures rows { take result candidates.new ≡ rows_up_to (N.rational best) (map N.rational numbers.now) candidates.old }
 {
     let mut kept = 0;
-    for s in 0..count {
+    for s in 0..candidates.len() {
         if !is_below(best, numbers[s]) {
             candidates[kept] = candidates[s];
             kept += 1;
@@ -104,7 +102,7 @@ pub fn keep<N: Exact>(candidates: &mut [u32], count: usize, numbers: &[N], best:
     kept
 }
 
-/// Keeps those of the candidates that are least at a key, and tells how many they are, or the place that does not fit.
+/// Moves those of the candidates that are least at a key to the front, and tells how many they are, or the place that does not fit.
 pub fn refine_at<N: Exact>(
     shape: Shape,
     cells: &[N],
@@ -125,37 +123,35 @@ pub fn refine_at<N: Exact>(
     ensures some { IfOk result (λ left. 0 < left) }
     ensures within { IfOk result (λ left. left ≤ length candidates.old) }
 {
-    let count = candidates.len();
+    let numbers = &mut numbers[..candidates.len()];
     match compare_all(shape, cells, entering, key, candidates, numbers) {
         Some(place) => Err(place),
         None => {
-            let best = least(numbers, count);
-            Ok(keep(candidates, count, numbers, best))
+            let best = least(numbers);
+            Ok(keep(candidates, numbers, best))
         }
     }
 }
 
-/// The candidate that remains when the first ones are compared at one slack after the other, or the place that does not fit.
+/// The candidate that remains when they are compared at one slack after the other, or the place that does not fit.
 pub fn refine_by_slacks<N: Exact>(
     shape: Shape,
     cells: &[N],
     entering: EnteringColumn,
     candidates: &mut [u32],
-    count: usize,
     numbers: &mut [N],
 ) -> Result<u32, Place>
     requires whole { length cells.now ≡ cell_count shape }
     requires column { entering.column < shape.columns + shape.rows + 2 }
-    requires some { 0 < count }
-    requires count { count ≤ length candidates.old }
+    requires some { 0 < length candidates.old }
     requires room { length candidates.old ≤ length numbers.old }
-    requires rows { AreCandidates (tableau_of N.rational shape cells.now) entering.column (take count candidates.old) }
-    ensures stop { IfErr result (λ place. ratio_stop (Some (limit_of N.WIDTH)) entering.stage (tableau_of N.rational shape cells.now) entering.column (range_with_len shape.columns shape.rows) (take count candidates.old) ≡ Some place) }
-    ensures fits { IfOk result (λ row. ratio_stop (Some (limit_of N.WIDTH)) entering.stage (tableau_of N.rational shape cells.now) entering.column (range_with_len shape.columns shape.rows) (take count candidates.old) ≡ None) }
-    ensures row { IfOk result (λ row. row ≡ slice_index (refined (compared_of entering.stage (tableau_of N.rational shape cells.now) entering.column) (range_with_len shape.columns shape.rows) (take count candidates.old)) 0) }
+    requires rows { AreCandidates (tableau_of N.rational shape cells.now) entering.column candidates.old }
+    ensures stop { IfErr result (λ place. ratio_stop (Some (limit_of N.WIDTH)) entering.stage (tableau_of N.rational shape cells.now) entering.column (range_with_len shape.columns shape.rows) candidates.old ≡ Some place) }
+    ensures fits { IfOk result (λ row. ratio_stop (Some (limit_of N.WIDTH)) entering.stage (tableau_of N.rational shape cells.now) entering.column (range_with_len shape.columns shape.rows) candidates.old ≡ None) }
+    ensures row { IfOk result (λ row. row ≡ slice_index (refined (compared_of entering.stage (tableau_of N.rational shape cells.now) entering.column) (range_with_len shape.columns shape.rows) candidates.old) 0) }
     ensures candidate { IfOk result (λ row. IsCandidate (tableau_of N.rational shape cells.now) entering.column row) }
 {
-    let mut left = count;
+    let mut left = candidates.len();
     for key in shape.columns..shape.extra() {
         if left < 2 {
             return Ok(candidates[0]);
@@ -175,8 +171,33 @@ pub fn refine_by_slacks<N: Exact>(
     Ok(candidates[0])
 }
 
-/// The row that leaves the basis, of the first candidates, or the place of the ratio test that does not fit.
+/// The candidate that leaves the basis, or the place of the ratio test that does not fit.
 pub fn leaving<N: Exact>(
+    shape: Shape,
+    cells: &[N],
+    entering: EnteringColumn,
+    candidates: &mut [u32],
+    numbers: &mut [N],
+) -> Result<u32, Place>
+    requires whole { length cells.now ≡ cell_count shape }
+    requires column { entering.column < shape.columns + shape.rows + 2 }
+    requires some { 0 < length candidates.old }
+    requires room { length candidates.old ≤ length numbers.old }
+    requires rows { AreCandidates (tableau_of N.rational shape cells.now) entering.column candidates.old }
+    ensures stop { IfErr result (λ place. ratio_stop (Some (limit_of N.WIDTH)) entering.stage (tableau_of N.rational shape cells.now) entering.column (keys (tableau_of N.rational shape cells.now)) candidates.old ≡ Some place) }
+    ensures fits { IfOk result (λ row. ratio_stop (Some (limit_of N.WIDTH)) entering.stage (tableau_of N.rational shape cells.now) entering.column (keys (tableau_of N.rational shape cells.now)) candidates.old ≡ None) }
+    ensures row { IfOk result (λ row. row ≡ slice_index (refined (compared_of entering.stage (tableau_of N.rational shape cells.now) entering.column) (keys (tableau_of N.rational shape cells.now)) candidates.old) 0) }
+    ensures candidate { IfOk result (λ row. IsCandidate (tableau_of N.rational shape cells.now) entering.column row) }
+{
+    if candidates.len() < 2 {
+        return Ok(candidates[0]);
+    }
+    let left = refine_at(shape, cells, entering, shape.right(), candidates, numbers)?;
+    refine_by_slacks(shape, cells, entering, &mut candidates[..left], numbers)
+}
+
+/// The same of the first candidates in a list.
+pub fn leaving_of_first<N: Exact>(
     shape: Shape,
     cells: &[N],
     entering: EnteringColumn,
@@ -195,18 +216,5 @@ pub fn leaving<N: Exact>(
     ensures row { IfOk result (λ row. row ≡ slice_index (refined (compared_of entering.stage (tableau_of N.rational shape cells.now) entering.column) (keys (tableau_of N.rational shape cells.now)) (take count candidates.old)) 0) }
     ensures candidate { IfOk result (λ row. IsCandidate (tableau_of N.rational shape cells.now) entering.column row) }
 {
-    if count < 2 {
-        return Ok(candidates[0]);
-    }
-    match refine_at(
-        shape,
-        cells,
-        entering,
-        shape.right(),
-        &mut candidates[..count],
-        numbers,
-    ) {
-        Ok(left) => refine_by_slacks(shape, cells, entering, candidates, left, numbers),
-        Err(place) => Err(place),
-    }
+    leaving(shape, cells, entering, &mut candidates[..count], numbers)
 }

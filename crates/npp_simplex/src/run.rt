@@ -13,7 +13,7 @@ use crate::clear::drop_extra;
 use crate::end::End;
 use crate::pivot::pivot;
 use crate::place::Place;
-use crate::ratio::leaving;
+use crate::ratio::leaving_of_first;
 use crate::shape::Shape;
 use crate::stage::{EnteringColumn, Stage};
 use crate::workspace::Room;
@@ -62,7 +62,7 @@ pub fn advance<N: Exact>(
     let candidates = room.candidates.as_mut_slice();
     let numbers = room.numbers.as_mut_slice();
     let columns = room.columns.as_mut_slice();
-    let row = leaving(shape, cells, entering, candidates, count, numbers)? as usize;
+    let row = leaving_of_first(shape, cells, entering, candidates, count, numbers)? as usize;
     match pivot(shape, cells, row, entering.column, numbers, columns) {
         Some(place) => Err(place),
         None => {

@@ -7,8 +7,8 @@ use Rattle.npp_simplex.proofs.Turning.{state_is, leaves, stop_in_pivot}
 use Rattle.npp_simplex.proofs.StageStops.{stops_agree}
 use Rattle.npp_simplex.proofs.run.advance.Goals as goal
 
-pub leaving-requires-clause-rows : goal.leaving-requires-clause-rows
-leaving-requires-clause-rows g c =
+pub leaving_of_first-requires-clause-rows : goal.leaving_of_first-requires-clause-rows
+leaving_of_first-requires-clause-rows g c =
     let t = tableau_of g.N.Exact.rational c.args.shape c.args.cells.now in
     subst (AreCandidates t c.args.entering.column) (sym (ap (take c.args.count) c.as_mut_slice-candidates.ensures.value ∙ c.requires.rows)) c.requires.entry
 

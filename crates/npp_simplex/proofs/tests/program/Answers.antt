@@ -1,4 +1,4 @@
-use Rattle.std.proofs.Common.{◌+◌, List, [], ◌∷◌, ◌++◌, length, sym, ◌∙◌, subst, arith, All}
+use Rattle.std.proofs.Common.{[], ◌∷◌, ◌++◌, length, sym, ◌∙◌, subst, arith, All}
 use Rattle.npp_lp.specs.Programs.{Row, AreTerms}
 use Rattle.npp_lp.specs.Meaning.{terms_of, rows_of}
 use Rattle.npp_lp.specs.GrowLaws.{rows_push}

@@ -1,4 +1,4 @@
-use Rattle.std.proofs.Common.{◌+◌, List, ap, sym, ◌∙◌, subst}
+use Rattle.std.proofs.Common.{◌+◌, ap, sym, ◌∙◌, subst}
 use Rattle.npp_lp.specs.Programs.{AreTerms}
 use Rattle.npp_lp.specs.Meaning.{terms_of}
 use Rattle.npp_lp.specs.GrowLaws.{entries_push, terms_skip}
