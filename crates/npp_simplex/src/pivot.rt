@@ -65,7 +65,9 @@ pub fn nonzero_columns<N: Exact>(row: &[N], columns: &mut [u32]) -> usize
 }
 
 /// Takes a multiple of another row from a row, up to the first number that does not fit, whose column it answers.
-/// The columns are those at which the other row is not 0: elsewhere nothing changes.
+/// The columns are those at which the other row is not 0: elsewhere nothing changes. It is not inlined, so that its loop
+/// has the registers for itself.
+#[inline(never)]
 pub fn eliminate<N: Exact>(row: &mut [N], factor: N, other: &[N], columns: &[u32]) -> Option<u32>
     requires lengths { length other.now ≡ length row.old }
     requires columns { columns.now ≡ nonzero_columns_of (at (map N.rational other.now)) (length row.old) }
