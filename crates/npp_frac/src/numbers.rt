@@ -45,7 +45,7 @@ pub fn quotient(a: i128, by: u128) -> i128
     if by == 1 { a } else { truncated(a, by) }
 }
 
-/// The same without the test for 1.
+/// The same as the quotient of the sizes, with the sign of the number.
 #[inline(always)]
 fn truncated(a: i128, by: u128) -> i128
     requires positive { 0 < by }

@@ -29,6 +29,6 @@ pub struct Overflow<N> {
     /// The second operand.
     pub right: N,
     /// The operation. It stands last, so that in a result an operand lies where a value would: with another field at
-    /// that place the compiler copies values by parts, and one `a - b * c` takes twice as long.
+    /// that place the compiler moves values in parts, and an update of a tableau takes nearly twice as long.
     pub op: Op,
 }
