@@ -1,12 +1,9 @@
 //! The check of a sparse dual answer of a dense program.
 
-ghost use Rattle.std.specs.Prelude.{◌≡◌, ◌≢◌, ◌+◌, ◌<◌, ◌≤◌, ◌^◌, length, IfOk};
-ghost use Rattle.npp_frac.specs.Rational.{zero_ℚ};
-ghost use Rattle.npp_lp.specs.Programs.{AreTerms};
-ghost use Rattle.npp_lp.specs.Meaning.{IsProgram, terms_of};
+ghost use Rattle.std.specs.Prelude.{◌≡◌, ◌+◌, [], length, IfOk, OnOk};
 
-use npp_frac::{Exact, Frac64};
-use npp_lp::{Entry, Program, check_dual};
+use npp_frac::{Exact, Frac64, Memory};
+use npp_lp::{Program, ProgramBuilder, check_dual};
 use std::alloc::{AllocError, Global};
 
 /// The most rows and the most columns.
@@ -16,7 +13,7 @@ const MOST: u32 = 100_000;
 ///
 /// The program has that many rows and columns and no coefficient of 0; its goal is 0, so that each column is summed and
 /// each passes.
-pub fn checked(alloc: Global, rows: u32, columns: u32, nonzero: u32) -> Result<i128, AllocError> {
+pub fn checked(alloc: Global, rows: u32, columns: u32, nonzero: u32) -> Result<i128, Memory> {
     if rows > MOST || columns > MOST {
         return Ok(-1);
     }
@@ -29,35 +26,31 @@ pub fn checked(alloc: Global, rows: u32, columns: u32, nonzero: u32) -> Result<i
 }
 
 /// A program with a coefficient of 1 to 7 in each row and column.
-fn dense(alloc: Global, rows: u32, columns: u32) -> Result<Program<Frac64>, AllocError>
-    requires few { rows + columns < 2 ^ 31 }
-    ensures program { IfOk result (IsProgram ⟦<Frac64 as Exact>⟧.rational) }
-    ensures rows { IfOk result (λ p. length p.rows.items ≡ rows) }
+fn dense(alloc: Global, rows: u32, columns: u32) -> Result<Program<Frac64>, Memory>
+    ensures { IfOk result (λ p. length p.rows ≡ rows) }
 {
-    let mut lines = Vec::new(alloc);
-    let mut right = Vec::new(alloc);
+    let mut builder = ProgramBuilder::new(alloc, columns)?;
     for i in 0..rows {
-        lines.push(row(alloc, columns, Frac64::of_whole(i64::from(1 + i % 7)))?)?;
-        right.push(Frac64::of_whole(i64::from(i % 1000)))?;
+        write_row(&mut builder, columns, i)?;
     }
-    Ok(Program {
-        columns,
-        rows: lines,
-        right,
-        goal: numbers(alloc, columns, 0)?,
-    })
+    let goal = numbers(alloc, columns, 0)?;
+    Ok(builder.finish(goal))
 }
 
-/// A row with the same coefficient in each column.
-fn row(alloc: Global, columns: u32, value: Frac64) -> Result<Vec<Entry<Frac64>>, AllocError>
-    requires { ⟦<Frac64 as Exact>⟧.rational value ≢ zero_ℚ }
-    ensures { IfOk result (λ entries. AreTerms columns (terms_of ⟦<Frac64 as Exact>⟧.rational entries.items)) }
+/// Writes a row with the same coefficient in each column.
+fn write_row(builder: &mut ProgramBuilder<Frac64>, columns: u32, i: u32) -> Result<(), Memory>
+    requires columns { builder.old.columns ≡ columns }
+    requires begins { builder.old.next ≡ 0 }
+    ensures columns { OnOk result (builder.new.columns ≡ columns) }
+    ensures rows { OnOk result (length builder.new.rows ≡ length builder.old.rows + 1) }
+    ensures begins { OnOk result (builder.new.next ≡ 0) }
+    ensures ended { OnOk result (builder.new.entries ≡ []) }
 {
-    let mut entries = Vec::new(alloc);
+    let value = Frac64::of_whole(i64::from(1 + i % 7));
     for column in 0..columns {
-        entries.push(Entry { column, value })?;
+        builder.entry(column, value)?;
     }
-    Ok(entries)
+    builder.end_row(Frac64::of_whole(i64::from(i % 1000)))
 }
 
 /// So many numbers: 1 in the first `ones` places, and 0 in the others.

@@ -4,13 +4,10 @@
 //! columns are multiplied by small fractions. A point with 3 in each column before that keeps each row, and the first row
 //! bounds every column. Each fourth row asks for at least its right side, so that phase one stands.
 
-ghost use Rattle.std.specs.Prelude.{◌≡◌, ◌≢◌, ◌+◌, ◌<◌, ◌≤◌, ◌^◌, length, IfOk, IfSome};
-ghost use Rattle.npp_frac.specs.Rational.{zero_ℚ};
-ghost use Rattle.npp_lp.specs.Programs.{AreTerms};
-ghost use Rattle.npp_lp.specs.Meaning.{IsProgram, terms_of};
+ghost use Rattle.std.specs.Prelude.{◌≡◌, ◌≤◌, [], length, IfOk, OnOk};
 
-use npp_frac::{Exact, is_zero};
-use npp_lp::{Entry, Program};
+use npp_frac::{Exact, Memory, is_zero};
+use npp_lp::{Program, ProgramBuilder};
 use std::alloc::{AllocError, Global};
 
 /// The greatest numerator and denominator of a factor of a row or of a column.
@@ -23,58 +20,49 @@ pub fn generated<N: Exact>(
     rows: u32,
     columns: u32,
     most: u32,
-) -> Result<Program<N>, AllocError>
-    requires few { rows + columns < 2 ^ 31 }
-    requires columns { columns ≤ 100000 }
-    ensures program { IfOk result (IsProgram N.rational) }
+) -> Result<Program<N>, Memory>
+    requires { columns ≤ 100000 }
 {
-    let mut lines = Vec::new(alloc);
-    let mut right = Vec::new(alloc);
+    let mut builder = ProgramBuilder::new(alloc, columns)?;
     for i in 0..rows {
-        lines.push(row(alloc, i, columns, most)?)?;
-        right.push(bound(i, columns, most))?;
+        write_row(&mut builder, i, columns, most)?;
     }
-    Ok(Program {
-        columns,
-        rows: lines,
-        right,
-        goal: goal(alloc, columns, most)?,
-    })
+    let goal = goal(alloc, columns, most)?;
+    Ok(builder.finish(goal))
 }
 
-/// The coefficients of a row.
-fn row<N: Exact>(
-    alloc: Global,
+/// Writes a row.
+fn write_row<N: Exact>(
+    builder: &mut ProgramBuilder<N>,
     i: u32,
     columns: u32,
     most: u32,
-) -> Result<Vec<Entry<N>>, AllocError>
-    ensures { IfOk result (λ entries. AreTerms columns (terms_of N.rational entries.items)) }
+) -> Result<(), Memory>
+    requires few { columns ≤ 100000 }
+    requires columns { builder.old.columns ≡ columns }
+    requires begins { builder.old.next ≡ 0 }
+    ensures columns { OnOk result (builder.new.columns ≡ columns) }
+    ensures begins { OnOk result (builder.new.next ≡ 0) }
+    ensures ended { OnOk result (builder.new.entries ≡ []) }
 {
-    let mut entries = Vec::new(alloc);
     for column in 0..columns {
-        if let Some(value) = coefficient(i, column, columns, most) {
-            entries.push(Entry { column, value })?;
-        }
+        builder.entry(column, coefficient(i, column, columns, most))?;
     }
-    Ok(entries)
+    builder.end_row(bound(i, columns, most))
 }
 
-/// The coefficient of a row in a column, or None where the row has none there.
-fn coefficient<N: Exact>(i: u32, column: u32, columns: u32, most: u32) -> Option<N>
-    ensures { IfSome result (λ value. N.rational value ≢ zero_ℚ) }
-{
+/// The coefficient of a row in a column.
+fn coefficient<N: Exact>(i: u32, column: u32, columns: u32, most: u32) -> N {
     let start = first_column(i, columns);
     if column < start || column - start >= length_of(i, columns) {
-        return None;
+        return N::of_whole(0);
     }
     let size = times(factor::<N>(21, i, most), factor(23, column, most));
-    let value = if is_lower(i) {
+    if is_lower(i) {
         times(N::of_whole(-1), size)
     } else {
         size
-    };
-    if is_zero(value) { None } else { Some(value) }
+    }
 }
 
 /// Whether a row asks for at least its right side.

@@ -69,7 +69,9 @@ fn print_dual(rt: &impl Print, alloc: Global, sizes: &str) -> io::Result<()> {
     let Some((rows, columns, nonzero)) = numbers(sizes) else {
         return println!(rt; "rows, columns and nonzero multipliers are wanted");
     };
-    let value = checked(alloc, rows, columns, nonzero)?;
+    let Ok(value) = checked(alloc, rows, columns, nonzero) else {
+        return println!(rt; "too little memory");
+    };
     println!(rt; "rows {rows} columns {columns} nonzero {nonzero}: {value}")
 }
 
@@ -83,7 +85,7 @@ fn print_simplex<N: Exact>(
     let Some((rows, columns, most)) = numbers(sizes) else {
         return println!(rt; "rows, columns and the greatest factor are wanted");
     };
-    let Some(end) = solved::<N>(alloc, rows, columns, most)? else {
+    let Ok(Some(end)) = solved::<N>(alloc, rows, columns, most) else {
         return println!(rt; "width {width} rows {rows} columns {columns} most {most}: no optimum");
     };
     println!(rt;

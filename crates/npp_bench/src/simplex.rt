@@ -3,7 +3,7 @@
 use crate::interval::generated;
 use npp_frac::{Exact, Memory};
 use npp_simplex::{Answer, solve};
-use std::alloc::{AllocError, Global};
+use std::alloc::Global;
 
 /// The most rows and the most columns.
 const MOST: u32 = 10_000;
@@ -22,21 +22,19 @@ pub struct Ended {
     pub den: i128,
 }
 
-/// The run on the generated program of these sizes, or None where it does not end with an optimum or memory is wanting.
+/// The run on the generated program of these sizes, or None where it does not end with an optimum.
 pub fn solved<N: Exact>(
     alloc: Global,
     rows: u32,
     columns: u32,
     most: u32,
-) -> Result<Option<Ended>, AllocError> {
+) -> Result<Option<Ended>, Memory> {
     if rows > MOST || columns > MOST {
         return Ok(None);
     }
     let program = generated::<N>(alloc, rows, columns, most)?;
-    match solve(alloc, &program, CAP) {
-        Ok(answer) => Ok(end_of(&answer)),
-        Err(Memory) => Ok(None),
-    }
+    let answer = solve(alloc, &program, CAP)?;
+    Ok(end_of(&answer))
 }
 
 /// What is printed of an answer.

@@ -10,6 +10,8 @@ pub mod Reduction
 pub mod SumGcd
 pub mod Fits
 pub mod FitsLaws
+pub mod ZeroLaws
+pub mod FitsResults
 pub mod Value
 pub mod ValueLaws
 pub mod Wide

@@ -1,9 +1,15 @@
 -- The sign of a rational number, and that of its numerator.
-use Rattle.std.specs.Prelude.{◌≡◌, ◌≢◌, ℤ, pos, ◌≤ℤ◌, ◌<ℤ◌}
+use Rattle.std.specs.Prelude.{◌≡◌, ◌≢◌, ℤ, pos, ◌≤ℤ◌, ◌<ℤ◌, Bool, true, false}
+use Rattle.std.specs.Ordering.{int_eq}
 use Rattle.std.proofs.Common.{arith, ◌∙◌, sym}
+use Rattle.std.proofs.lemmas.Bool.Decides.{Decides-int_eq}
 use Rattle.std.proofs.lemmas.Int.{ints}
 use Rattle.npp_frac.specs.Rational.{Rational, whole, zero_ℚ, Is-self, Is-same, Is-le, le-Is, Is-lt, lt-Is, Is-whole, ◌≤ℚ◌, ◌<ℚ◌}
 use Rattle.npp_frac.specs.Order.{≤ℚ_of_≡, whole_injective}
+
+-- whether a number is 0
+abbrev pub is_zero : Rational → Bool
+is_zero q = int_eq q.num (pos 0)
 
 pub nonneg_of_num : (q : Rational) → pos 0 ≤ℤ q.num → zero_ℚ ≤ℚ q
 nonneg_of_num q h = Is-le (Is-whole (pos 0)) (Is-self q) (omega (arith, ints, h))
@@ -39,3 +45,12 @@ nonzero_of_num q h e = h (num_of_zero q e)
 
 pub nonzero_of_whole : (q : Rational) (n : ℤ) → q ≡ whole n → n ≢ pos 0 → q ≢ zero_ℚ
 nonzero_of_whole q n e h z = h (whole_injective (sym e ∙ z))
+
+pub is_zero_yes : (q : Rational) → is_zero q ≡ true → q ≡ zero_ℚ
+is_zero_yes q e = zero_of_num q ((Decides-int_eq q.num (pos 0)).0 e)
+
+pub is_zero_of : (q : Rational) → q ≡ zero_ℚ → is_zero q ≡ true
+is_zero_of q e = (Decides-int_eq q.num (pos 0)).1 (num_of_zero q e)
+
+pub is_zero_no : (q : Rational) → is_zero q ≡ false → q ≢ zero_ℚ
+is_zero_no q e z = let zero : is_zero q ≡ true = is_zero_of q z in cc

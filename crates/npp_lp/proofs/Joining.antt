@@ -1,23 +1,12 @@
 -- What one step of a checked sum gives.
-use Rattle.std.proofs.Common.{◌≡◌, ℕ, true, false, Result, Ok, Err, is_ok, IfOk, IfErr, IsErrAnd, refl, sym, ◌∙◌, ap}
+use Rattle.std.proofs.Common.{◌≡◌, ℕ, true, false, Result, Ok, Err, is_ok, IfOk, IfErr, IsErrAnd, sym, ◌∙◌, ap}
 use Rattle.npp_frac.specs.Rational.{Rational, ◌+ℚ◌, ◌*ℚ◌}
 use Rattle.npp_frac.specs.Fits.{fits_add, fits_mul}
 use Rattle.npp_frac.specs.declared.refusal.Op.TheVariants.{Add, Mul}
 use Rattle.npp_frac.specs.declared.refusal.Overflow.{Overflow}
 use Rattle.npp_lp.specs.Sums.{joined_sum}
+use Rattle.npp_lp.specs.SumLaws.{joined_sum_fits, joined_sum_mul, joined_sum_add}
 use Rattle.npp_lp.specs.Meaning.{overflow_of, sum_result}
-
-pub joined_sum_fits : (m : ℕ) (sum a b : Rational) → true ≡ fits_mul m a b → true ≡ fits_add m sum (a *ℚ b) → joined_sum m sum a b ≡ Ok (sum +ℚ a *ℚ b)
-unfolding joined_sum
-joined_sum_fits m sum a b f g = rw (← f, ← g) refl
-
-pub joined_sum_mul : (m : ℕ) (sum a b : Rational) → false ≡ fits_mul m a b → joined_sum m sum a b ≡ Err (record { op = Mul; left = a; right = b })
-unfolding joined_sum
-joined_sum_mul m sum a b f = rw (← f) refl
-
-pub joined_sum_add : (m : ℕ) (sum a b : Rational) → true ≡ fits_mul m a b → false ≡ fits_add m sum (a *ℚ b) → joined_sum m sum a b ≡ Err (record { op = Add; left = sum; right = a *ℚ b })
-unfolding joined_sum
-joined_sum_add m sum a b f g = rw (← f, ← g) refl
 
 module _ {N : Type 0} (value : N → Rational) (m : ℕ) where
   -- where the product does not fit

@@ -1,6 +1,4 @@
 pub mod Adding
-pub mod Coefficients
 pub mod Joining
-pub mod Lookups
 pub mod Verdicts
-pub mod Zeros
+pub mod Writing

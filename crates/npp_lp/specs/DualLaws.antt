@@ -47,7 +47,7 @@ pub columns_at_most : (p : LinearProgram) (y x : List Rational) → All (λ r. A
 columns_at_most p y x rows size positive point = combined p y x rows size positive point (length p.rows) (omega arith)
 
 -- where no column sum is below some goal, that goal at a point is at most the right sides
-goals_at_most : (p : LinearProgram) (goal : ℕ → Rational) (y x : List Rational) → All (λ r. AreTerms p.columns r.terms) p.rows → length y ≡ length p.rows → AreNotNegative y → ((j : ℕ) → j < p.columns → goal j ≤ℚ column_sum p y j) → IsPoint p x → product_sum p.columns goal (at x) ≤ℚ right_value p y
+pub goals_at_most : (p : LinearProgram) (goal : ℕ → Rational) (y x : List Rational) → All (λ r. AreTerms p.columns r.terms) p.rows → length y ≡ length p.rows → AreNotNegative y → ((j : ℕ) → j < p.columns → goal j ≤ℚ column_sum p y j) → IsPoint p x → product_sum p.columns goal (at x) ≤ℚ right_value p y
 goals_at_most p goal y x rows size positive above point =
     ≤ℚ_trans
     (sum_to_mono p.columns (λ j. goal j *ℚ at x j) (λ j. column_sum p y j *ℚ at x j) (λ j l.

@@ -1,11 +1,10 @@
 -- What the programs and answers of the code stand for, over the rational numbers. `value` says what a number stands for.
-use Rattle.std.specs.Prelude.{◌≡◌, ◌+◌, ◌^◌, ◌<◌, List, [], ◌∷◌, length, map, All, Vec, Result}
+use Rattle.std.specs.Prelude.{◌≡◌, ◌+◌, ◌^◌, ◌<◌, List, length, map, All, Result}
 use Rattle.std.specs.Result.{result_map_both}
-use Rattle.std.specs.Global.{Global}
 use Rattle.npp_frac.specs.Rational.{Rational}
 use Rattle.npp_frac.specs.declared.refusal.Overflow.{Overflow as Stop}
 use Rattle.npp_lp.specs.declared.program.Entry.{Entry}
-use Rattle.npp_lp.specs.declared.program.Program.{Program}
+use Rattle.npp_lp.specs.ProgramOver.{RowOver, ProgramOver}
 use Rattle.npp_lp.specs.declared.faults.DualFault.{DualFault}
 use Rattle.npp_lp.specs.declared.faults.DualFault.TheVariants as dual
 use Rattle.npp_lp.specs.declared.faults.FarkasFault.{FarkasFault}
@@ -20,26 +19,22 @@ term_of value e = record { column = e.column; value = value e.value }
 abbrev pub terms_of : {N : Type 0} → (N → Rational) → List (Entry N) → List Term
 terms_of value entries = map (term_of value) entries
 
--- each row with its right side
-abbrev pub rows_of : {N : Type 0} → (N → Rational) → List (Vec (Entry N) Global) → List N → List Row
-rows_of value [] right = []
-rows_of value (r ∷ rs) [] = []
-rows_of value (r ∷ rs) (b ∷ bs) = record { terms = terms_of value r.items; right = value b } ∷ rows_of value rs bs
+abbrev pub row_meant : {N : Type 0} → (N → Rational) → RowOver N → Row
+row_meant value r = record { terms = terms_of value r.entries; right = value r.right }
 
-abbrev pub linear_program : {N : Type 0} → (N → Rational) → Program N → LinearProgram
+abbrev pub linear_program : {N : Type 0} → (N → Rational) → ProgramOver N → LinearProgram
 linear_program value p = record {
   columns = p.columns;
-  rows = rows_of value p.rows.items p.right.items;
-  goal = map value p.goal.items;
+  rows = map (row_meant value) p.rows;
+  goal = map value p.goal;
 }
 
--- what each call asks of a program: its entries stand in order, its lists agree in length, and its rows and columns
--- together can be numbered
-pub record IsProgram {N : Type 0} (value : N → Rational) (p : Program N) : Type 0 where
+-- the form of a program: its entries stand in order and none is 0, its goal has a number for each column, and its rows
+-- and columns together can be numbered
+pub record IsProgram {N : Type 0} (value : N → Rational) (p : ProgramOver N) : Type 0 where
   pub rows : All (λ r. AreTerms p.columns r.terms) (linear_program value p).rows
-  pub right : length p.right.items ≡ length p.rows.items
-  pub goal : length p.goal.items ≡ p.columns
-  pub numbered : p.columns + length p.rows.items < 2 ^ 31
+  pub goal : length p.goal ≡ p.columns
+  pub numbered : p.columns + length p.rows < 2 ^ 31
 
 abbrev pub overflow_of : {N : Type 0} → (N → Rational) → Stop N → Stop Rational
 overflow_of value o = record { op = o.op; left = value o.left; right = value o.right }

@@ -1,14 +1,29 @@
 -- The laws of checked sums.
-use Rattle.std.specs.Prelude.{◌≡◌, ℕ, zero, suc, ◌+◌, ◌<◌, List, [], ◌∷◌, length, slice_index_or, Option, Some, None, Ok, Err, refl}
+use Rattle.std.specs.Prelude.{◌≡◌, ℕ, zero, suc, ◌+◌, ◌<◌, true, false, List, [], ◌∷◌, length, slice_index_or, Option, Some, None, Ok, Err, refl}
 use Rattle.std.proofs.Common.{sym, ◌∙◌, ap, add-one}
 use Rattle.npp_frac.specs.Rational.{Rational, zero_ℚ, ◌+ℚ◌, ◌*ℚ◌}
 use Rattle.npp_frac.specs.Ring.{zero-+ℚ, +ℚ-zero, +ℚ_assoc}
 use Rattle.npp_frac.specs.Sums.{sum_to, sum_by}
+use Rattle.npp_frac.specs.Fits.{fits_add, fits_mul}
+use Rattle.npp_frac.specs.declared.refusal.Op.TheVariants.{Add, Mul}
 use Rattle.npp_frac.specs.declared.refusal.Overflow.{Overflow}
 use Rattle.npp_lp.specs.Programs.{Term, at, product_sum, terms_at}
 use Rattle.npp_lp.specs.Checked.{no_term}
 use Rattle.npp_lp.specs.Sums.{joining_overflow, joined_sum, sum_overflow, checked_sum}
 use Rattle.npp_lp.specs.VerdictLaws.{first_below_more, first_below_found, unless_ok, unless_err}
+
+-- one product joins a sum where both operations fit
+pub joined_sum_fits : (m : ℕ) (sum a b : Rational) → true ≡ fits_mul m a b → true ≡ fits_add m sum (a *ℚ b) → joined_sum m sum a b ≡ Ok (sum +ℚ a *ℚ b)
+unfolding joined_sum
+joined_sum_fits m sum a b f g = rw (← f, ← g) refl
+
+pub joined_sum_mul : (m : ℕ) (sum a b : Rational) → false ≡ fits_mul m a b → joined_sum m sum a b ≡ Err (record { op = Mul; left = a; right = b })
+unfolding joined_sum
+joined_sum_mul m sum a b f = rw (← f) refl
+
+pub joined_sum_add : (m : ℕ) (sum a b : Rational) → true ≡ fits_mul m a b → false ≡ fits_add m sum (a *ℚ b) → joined_sum m sum a b ≡ Err (record { op = Add; left = sum; right = a *ℚ b })
+unfolding joined_sum
+joined_sum_add m sum a b f g = rw (← f, ← g) refl
 
 module _ (m : ℕ) (a b : ℕ → Rational) where
   step : ℕ → Option (Overflow Rational)

@@ -1,7 +1,9 @@
 -- The laws of first faults.
-use Rattle.std.specs.Prelude.{◌≡◌, ℕ, zero, suc, ◌+◌, ◌<◌, Bool, true, false, cond, List, length, Option, Some, None, Result, Ok, Err, IsOk, refl, option_map}
-use Rattle.std.proofs.Common.{arith, subst, add-one, inl, inr, eq-or-lt_of_le, le_of_suc-le-suc}
+use Rattle.std.specs.Prelude.{◌≡◌, ℕ, zero, suc, ◌+◌, ◌<◌, Bool, true, false, cond, List, length, Option, Some, None, is_some, Result, Ok, Err, IsOk, refl, option_map}
+use Rattle.std.specs.List.{list_any}
+use Rattle.std.proofs.Common.{arith, ap, ap₂, get_or, subst, add-one, inl, inr, eq-or-lt_of_le, le_of_suc-le-suc}
 use Rattle.std.proofs.lemmas.List.{get_or_default}
+use Rattle.std.proofs.lemmas.List.Folds.{list_any_at, list_any_none}
 use Rattle.npp_frac.specs.Rational.{Rational, zero_ℚ, is_less, ◌≤ℚ◌}
 use Rattle.npp_frac.specs.Order.{is_less_no, is_less_of_≤ℚ}
 use Rattle.npp_lp.specs.Programs.{at, AreNotNegative}
@@ -38,6 +40,11 @@ module _ {F : Type 0} (f : ℕ → Option F) where
   pub first_below_clear : (n : ℕ) → ((i : ℕ) → i < n → f i ≡ None) → first_below n f ≡ None
   first_below_clear zero h = refl
   first_below_clear (suc n) h = rw (first_below_clear n (λ i l. h i (omega arith)), h n (omega arith)) refl
+
+-- judgements that agree have one first fault
+pub first_below_same : {F : Type 0} → (n : ℕ) (f g : ℕ → Option F) → ((i : ℕ) → i < n → f i ≡ g i) → first_below n f ≡ first_below n g
+first_below_same zero f g h = refl
+first_below_same (suc n) f g h = ap₂ or_else (first_below_same n f g (λ i l. h i (omega arith))) (h n (omega arith))
 
 pub unless_ok : {T F : Type 0} → (o : Option F) (x y : T) → unless o (Ok x) ≡ Ok y → (o ≡ None) × (x ≡ y)
 unless_ok None x y e = (refl, cc)
@@ -79,6 +86,26 @@ pub first_of_not_negative : (xs : List Rational) → AreNotNegative xs → first
 unfolding negative_at
 first_of_not_negative xs h =
     first_below_clear (negative_at xs) (length xs) (λ i l. let no : is_less (at xs i) zero_ℚ ≡ false = is_less_of_≤ℚ (at xs i) zero_ℚ (h i zero_ℚ l) in rw no refl)
+
+not_true : (b : Bool) → (b ≡ true → ⊥) → b ≡ false
+not_true true h = absurd (h refl)
+not_true false h = refl
+
+some_of_not : {X : Type 0} → (o : Option X) → (o ≡ None → ⊥) → is_some o ≡ true
+some_of_not None h = absurd (h refl)
+some_of_not (Some x) h = refl
+
+none_of_any : {X : Type 0} → (p : X → Bool) (xs : List X) → list_any p xs ≡ false → (i : ℕ) (d : X) → i < length xs → p (get_or xs i d) ≡ false
+none_of_any p xs none i d l = not_true (p (get_or xs i d)) (λ found. (let some : list_any p xs ≡ true = list_any_at p xs i d l found in cc))
+
+any_negative : (xs : List Rational) (b : Bool) → list_any (λ q. is_less q zero_ℚ) xs ≡ b → is_some (first_negative xs) ≡ b
+unfolding negative_at
+any_negative xs false e = ap is_some (first_below_clear (negative_at xs) (length xs) (λ i l. rw (none_of_any (λ q. is_less q zero_ℚ) xs e i zero_ℚ l) refl))
+any_negative xs true e = some_of_not (first_negative xs) (λ none. (let no = list_any_none (λ q. is_less q zero_ℚ) xs (λ i d l. is_less_of_≤ℚ (get_or xs i d) zero_ℚ (not_negative_of_first xs none i d l)) in cc))
+
+-- whether there is a number below 0
+pub some_negative : (xs : List Rational) → is_some (first_negative xs) ≡ list_any (λ q. is_less q zero_ℚ) xs
+some_negative xs = any_negative xs (list_any (λ q. is_less q zero_ℚ) xs) refl
 
 pub unless_none : {T F : Type 0} → (o : Option F) (r : Result T F) → o ≡ None → unless o r ≡ r
 unless_none o r e = rw e refl

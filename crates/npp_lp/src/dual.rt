@@ -5,7 +5,7 @@ ghost use Rattle.npp_frac.specs.Fits.{limit_of};
 ghost use Rattle.npp_lp.specs.Programs.{IsProgramBound};
 ghost use Rattle.npp_lp.specs.Duals.{IsDualAnswer};
 ghost use Rattle.npp_lp.specs.DualVerdict.{dual_verdict};
-ghost use Rattle.npp_lp.specs.Meaning.{linear_program, dual_result, IsProgram};
+ghost use Rattle.npp_lp.specs.Meaning.{linear_program, dual_result};
 
 use crate::faults::DualFault;
 use crate::numbers::first_negative;
@@ -22,23 +22,23 @@ use npp_frac::{Exact, is_below};
 ///
 /// It takes no memory. A multiplier that is 0 costs one comparison for each column, any other a search in its row.
 pub fn check_dual<N: Exact>(program: &Program<N>, y: &[N]) -> Result<N, DualFault<N>>
-    requires program { IsProgram N.rational program.now }
-    requires size { length y.now ≡ length program.now.rows.items }
+    requires { length y.now ≡ length program.now.rows }
     ensures verdict { dual_result N.rational result
         ≡ dual_verdict (limit_of N.WIDTH) (linear_program N.rational program.now) (map N.rational y.now) }
     ensures answer { IfOk result (λ v.
         IsDualAnswer (linear_program N.rational program.now) (map N.rational y.now) (N.rational v)) }
     ensures bound { IfOk result (λ v. IsProgramBound (linear_program N.rational program.now) (N.rational v)) }
 {
+    let columns = program.columns();
     if let Some(row) = first_negative(y) {
         return Err(DualFault::NegativeRow(row));
     }
-    for column in 0..program.columns {
+    for column in 0..columns {
         let sum = column_sum(program, y, column)?;
-        if is_below(sum, program.goal[column as usize]) {
+        if is_below(sum, program.goal()[column as usize]) {
             return Err(DualFault::Column(column));
         }
     }
-    let value = product_sum(&program.right, y)?;
+    let value = product_sum(program.right(), y)?;
     Ok(value)
 }

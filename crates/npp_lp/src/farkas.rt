@@ -5,7 +5,7 @@ ghost use Rattle.npp_frac.specs.Fits.{limit_of};
 ghost use Rattle.npp_lp.specs.Programs.{IsInfeasible};
 ghost use Rattle.npp_lp.specs.Duals.{IsFarkasAnswer};
 ghost use Rattle.npp_lp.specs.FarkasVerdict.{farkas_verdict};
-ghost use Rattle.npp_lp.specs.Meaning.{linear_program, farkas_result, IsProgram};
+ghost use Rattle.npp_lp.specs.Meaning.{linear_program, farkas_result};
 
 use crate::faults::FarkasFault;
 use crate::numbers::first_negative;
@@ -21,23 +21,23 @@ use npp_frac::{Exact, is_negative};
 ///
 /// It takes no memory. A multiplier that is 0 costs one comparison for each column, any other a search in its row.
 pub fn check_farkas<N: Exact>(program: &Program<N>, y: &[N]) -> Result<(), FarkasFault<N>>
-    requires program { IsProgram N.rational program.now }
-    requires size { length y.now ≡ length program.now.rows.items }
+    requires { length y.now ≡ length program.now.rows }
     ensures verdict { farkas_result N.rational result
         ≡ farkas_verdict (limit_of N.WIDTH) (linear_program N.rational program.now) (map N.rational y.now) }
     ensures answer { OnOk result (IsFarkasAnswer (linear_program N.rational program.now) (map N.rational y.now)) }
     ensures infeasible { OnOk result (IsInfeasible (linear_program N.rational program.now)) }
 {
+    let columns = program.columns();
     if let Some(row) = first_negative(y) {
         return Err(FarkasFault::NegativeRow(row));
     }
-    for column in 0..program.columns {
+    for column in 0..columns {
         let sum = column_sum(program, y, column)?;
         if is_negative(sum) {
             return Err(FarkasFault::Column(column));
         }
     }
-    let value = product_sum(&program.right, y)?;
+    let value = product_sum(program.right(), y)?;
     if is_negative(value) {
         Ok(())
     } else {

@@ -4,18 +4,28 @@
 //! What it accepts is proved of the program over all rational numbers: a bound, that there is no point, or a point.
 #![tactic(auto)]
 
+mod builder;
 mod dual;
 mod farkas;
 mod faults;
+mod multiplier;
 mod numbers;
 mod primal;
 mod program;
+mod running;
+mod sparse;
 mod sums;
 #[cfg(test)]
 mod tests;
 
+pub use builder::ProgramBuilder;
 pub use dual::check_dual;
 pub use farkas::check_farkas;
 pub use faults::{DualFault, FarkasFault, PrimalFault};
+pub use multiplier::RowMultiplier;
+pub use numbers::first_negative;
 pub use primal::check_primal;
 pub use program::{Entry, Program};
+pub use running::RunningSums;
+pub use sparse::{check_sparse_dual, check_sparse_farkas};
+pub use sums::coefficient_at;

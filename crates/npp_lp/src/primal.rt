@@ -4,7 +4,7 @@ ghost use Rattle.std.specs.Prelude.{◌≡◌, length, map, IfOk, OnOk};
 ghost use Rattle.npp_frac.specs.Fits.{limit_of};
 ghost use Rattle.npp_lp.specs.Programs.{IsPoint, goal_at};
 ghost use Rattle.npp_lp.specs.PrimalVerdict.{primal_verdict};
-ghost use Rattle.npp_lp.specs.Meaning.{linear_program, primal_result, IsProgram};
+ghost use Rattle.npp_lp.specs.Meaning.{linear_program, primal_result};
 
 use crate::faults::PrimalFault;
 use crate::numbers::first_negative;
@@ -21,23 +21,23 @@ use npp_frac::{Exact, is_below};
 ///
 /// It takes no memory.
 pub fn check_primal<N: Exact>(program: &Program<N>, x: &[N]) -> Result<N, PrimalFault<N>>
-    requires program { IsProgram N.rational program.now }
-    requires size { length x.now ≡ program.now.columns }
+    requires { length x.now ≡ program.now.columns }
     ensures verdict { primal_result N.rational result
         ≡ primal_verdict (limit_of N.WIDTH) (linear_program N.rational program.now) (map N.rational x.now) }
     ensures point { OnOk result (IsPoint (linear_program N.rational program.now) (map N.rational x.now)) }
     ensures goal { IfOk result (λ v.
         goal_at (linear_program N.rational program.now) (map N.rational x.now) ≡ N.rational v) }
 {
+    let rows = program.row_count();
     if let Some(column) = first_negative(x) {
         return Err(PrimalFault::NegativeColumn(column));
     }
-    for (row, right) in program.right.iter().enumerate() {
-        let sum = row_sum(&program.rows[row], x)?;
-        if is_below(*right, sum) {
+    for row in 0..rows {
+        let sum = row_sum(program.row(row), x)?;
+        if is_below(program.right()[row], sum) {
             return Err(PrimalFault::Row(row as u32));
         }
     }
-    let goal = product_sum(&program.goal, x)?;
+    let goal = product_sum(program.goal(), x)?;
     Ok(goal)
 }

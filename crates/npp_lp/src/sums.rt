@@ -14,7 +14,7 @@ use crate::program::{Entry, Program};
 use npp_frac::{Exact, Overflow, is_zero};
 
 /// The sum with the product of two numbers added to it.
-fn add_product<N: Exact>(sum: N, a: N, b: N) -> Result<N, Overflow<N>>
+pub fn add_product<N: Exact>(sum: N, a: N, b: N) -> Result<N, Overflow<N>>
     ensures { sum_result N.rational result ≡ joined_sum (limit_of N.WIDTH) (N.rational sum) (N.rational a) (N.rational b) }
 {
     sum.add(a.mul(b)?)
@@ -30,6 +30,17 @@ fn entry_in<N: Exact>(row: &[Entry<N>], column: u32) -> Option<N>
     match row.binary_search_by_key(&column, |entry| entry.column) {
         Ok(place) => Some(row[place].value),
         Err(_) => None,
+    }
+}
+
+/// What a row has in a column: 0 where no entry stands there.
+pub fn coefficient_at<N: Exact>(row: &[Entry<N>], column: u32) -> N
+    requires { AllPairs (λ s t. s.column < t.column) row.now }
+    ensures { N.rational result ≡ coefficient (terms_of N.rational row.now) column }
+{
+    match entry_in(row, column) {
+        Some(value) => value,
+        None => N::of_whole(0),
     }
 }
 
@@ -56,13 +67,13 @@ fn add_entry<N: Exact>(
 /// The sum of a column, each entry times the multiplier of its row.
 pub fn column_sum<N: Exact>(program: &Program<N>, y: &[N], column: u32) -> Result<N, Overflow<N>>
     requires program { IsProgram N.rational program.now }
-    requires size { length y.now ≡ length program.now.rows.items }
+    requires size { length y.now ≡ length program.now.rows }
     ensures { sum_result N.rational result
         ≡ checked_column (limit_of N.WIDTH) (linear_program N.rational program.now) (map N.rational y.now) column }
 {
     let mut sum = N::of_whole(0);
     for (row, multiplier) in y.iter().enumerate() {
-        sum = add_entry(sum, &program.rows[row], column, *multiplier)?;
+        sum = add_entry(sum, program.row(row), column, *multiplier)?;
     }
     Ok(sum)
 }

@@ -6,7 +6,7 @@ use Rattle.npp_frac.specs.Rational.{Rational, is_less}
 use Rattle.npp_simplex.specs.declared.place.Place.{Place}
 use Rattle.npp_simplex.specs.Ratio.{least_rows, refined}
 use Rattle.npp_simplex.specs.Places.{first_row}
-use Rattle.npp_simplex.proofs.Reducing.{first_below_same}
+use Rattle.npp_simplex.proofs.FirstPlaces.{first_below_same}
 
 abbrev pub Each : (ℕ → Type 0) → List ℕ → Type 0
 Each P [] = ⊤

@@ -7,13 +7,13 @@ use Rattle.std.proofs.lemmas.List.Elements.{filter-append}
 use Rattle.std.proofs.lemmas.List.Sums.{AllPass-from_list_all, list_all-from_AllPass}
 use Rattle.std.proofs.lemmas.Grind.{take-set_at}
 use Rattle.npp_frac.specs.Rational.{Rational, is_less, ◌≤ℚ◌}
-use Rattle.npp_frac.specs.Order.{≤ℚ_of_≡, ≤ℚ_trans, is_less_no, is_less_of_≤ℚ}
+use Rattle.npp_frac.specs.Order.{≤ℚ_trans, is_less_no, is_less_of_≤ℚ}
 use Rattle.npp_lp.specs.Programs.{at}
 use Rattle.npp_lp.specs.Verdict.{first_below}
 use Rattle.npp_lp.specs.VerdictLaws.{first_below_more, first_below_found}
 use Rattle.npp_simplex.specs.declared.stage.Stage.{Stage}
 use Rattle.npp_simplex.specs.declared.place.Place.{Place}
-use Rattle.npp_simplex.specs.declared.answer.Step.TheVariants.{Ratio}
+use Rattle.npp_simplex.specs.declared.place.Step.TheVariants.{Ratio}
 use Rattle.npp_simplex.specs.Tableau.{Tableau}
 use Rattle.npp_simplex.specs.Ratio.{least_rows}
 use Rattle.npp_simplex.specs.Places.{place_unless, quotient_fits, quotient_stop, quotients_stop}
@@ -34,21 +34,12 @@ module _ (limit : Option ℕ) (s : Stage) (t : Tableau) (c key : ℕ) (xs : List
   pub stop_more : (j : ℕ) → first_below j stop_at ≡ None → true ≡ quotient_fits limit s t c key (slice_index xs j) → first_below (j + 1) stop_at ≡ None
   stop_more j none holds = first_below_more stop_at j none (ap (λ b. place_unless b (place_at j)) (sym holds))
 
-  pub stop_none : (j : ℕ) → j ≡ length xs → first_below j stop_at ≡ None → quotients_stop limit s t c key xs ≡ None
-  stop_none j e none = ap (λ k. first_below k stop_at) (sym e) ∙ none
-
 -- ---- the least number
 
 -- one of the first n numbers, and not above any of them
 pub record IsLeastUpTo (xs : List Rational) (n : ℕ) (q : Rational) : Type 0 where
   pub attained : (k : ℕ) × (k < n) × (at xs k ≡ q)
   pub bound : (k : ℕ) → k < n → q ≤ℚ at xs k
-
-pub least_first : (xs : List Rational) (q : Rational) → at xs 0 ≡ q → IsLeastUpTo xs 1 q
-least_first xs q e = record {
-  attained = (0, omega arith, e);
-  bound = λ k less. ≤ℚ_of_≡ (sym e ∙ ap (at xs) (let z : 0 ≡ k = omega arith in z));
-}
 
 pub least_more : (xs : List Rational) (n : ℕ) (q x r : Rational) → IsLeastUpTo xs n q → at xs n ≡ x → (r ≡ q) ⊎ (r ≡ x) → r ≤ℚ q → r ≤ℚ x → IsLeastUpTo xs (n + 1) r
 least_more xs n q x r h here one low_q low_x =
@@ -63,11 +54,6 @@ least_more xs n q x r h here one low_q low_x =
         | inr below ↦ ≤ℚ_trans low_q (h.bound k below)
       ];
     }
-
-pub least_of_all : (xs : List Rational) (n : ℕ) (q : Rational) → n ≡ length xs → IsLeastUpTo xs n q → IsLeastOf xs q
-least_of_all xs n q size h =
-    let a = h.attained in
-    record { attained = (a.0, omega (arith, a.1, size), a.2); bound = λ k less. h.bound k (omega (arith, less, size)) }
 
 -- ---- keeping rows
 

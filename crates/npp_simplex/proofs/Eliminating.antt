@@ -9,9 +9,10 @@ use Rattle.npp_lp.specs.Verdict.{first_below}
 use Rattle.npp_lp.specs.VerdictLaws.{first_below_none, first_below_clear}
 use Rattle.npp_simplex.specs.Places.{column_unless, fits_less_product}
 use Rattle.npp_simplex.specs.Steps.{is_nonzero, nonzero_columns}
-use Rattle.npp_simplex.proofs.Zeros.{fits_less_product-zero, less_product-zero}
+use Rattle.npp_frac.specs.ZeroLaws.{less_product-zero}
+use Rattle.npp_simplex.proofs.Zeros.{fits_less_product-zero}
 use Rattle.npp_simplex.proofs.Rows.{IsReplacedUpTo, replaced_more, stopped_at}
-use Rattle.npp_simplex.proofs.Reducing.{at_fits}
+use Rattle.npp_simplex.proofs.InList.{at_fits}
 use Rattle.npp_simplex.proofs.Nonzero.{IsGap, zero_if, columns_within, first_column, next_column}
 
 -- what the row becomes at a column, and whether it fits

@@ -8,6 +8,10 @@ use Rattle.npp_lp.specs.VerdictLaws.{first_below_none, cond_none}
 use Rattle.npp_simplex.specs.Tableau.{Tableau, cell}
 use Rattle.npp_simplex.specs.Ratio.{rising_at, rising_column, positive_rows}
 
+pub first_below_same : {F : Type 0} (f g : ℕ → Option F) (n : ℕ) → ((j : ℕ) → j < n → f j ≡ g j) → first_below n f ≡ first_below n g
+first_below_same f g zero h = refl
+first_below_same f g (suc n) h = rw (first_below_same f g n (λ j l. h j (omega arith)), h n (omega arith)) refl
+
 either : {F : Type 0} (o next : Option F) (x : F) → or_else o next ≡ Some x → (o ≡ Some x) ⊎ (next ≡ Some x)
 either None next x e = inr e
 either (Some y) next x e = inl e

@@ -9,7 +9,7 @@ use Rattle.npp_frac.specs.Ring.{zero-+ℚ, +ℚ-zero, -ℚ_self, -ℚ-zero, zero
 use Rattle.npp_frac.specs.Order.{≤ℚ_or_>, ≤ℚ_antisymm, <ℚ_irrefl, <ℚ_trans, ≤ℚ_of_<ℚ, ≤ℚ_of_≡, +ℚ_mono_<, *ℚ_mono_<}
 use Rattle.npp_frac.specs.Division.{/ℚ_mono_<}
 use Rattle.npp_lp.specs.Programs.{at}
-use Rattle.npp_simplex.proofs.Zeros.{zero-/ℚ}
+use Rattle.npp_frac.specs.ZeroLaws.{zero-/ℚ}
 use Rattle.npp_simplex.proofs.Tables.{map_range_same}
 use Rattle.npp_simplex.proofs.Invariant.{IsLexPositive, IsLexBelow, key_numbers}
 

@@ -7,17 +7,15 @@ pub mod FirstPlaces
 pub mod Gathering
 -- ---- the code's table against the tableau of the run
 pub mod Tables
+pub mod InList
+pub mod Changing
 pub mod Reading
 pub mod Rows
-pub mod Splices
-pub mod Coefficients
 pub mod Starting
 pub mod Comparing
 pub mod Refining
 pub mod Nonzero
 pub mod Eliminating
-pub mod Reducing
-pub mod Rowwise
 pub mod Pivoting
 pub mod Clearing
 pub mod StageStops

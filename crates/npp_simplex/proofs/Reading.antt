@@ -1,25 +1,12 @@
--- What a read of the code's table gives.
-use Rattle.std.proofs.Common.{◌≡◌, ℕ, zero, suc, ◌+◌, ◌*◌, ◌<◌, ◌≤◌, List, [], ◌∷◌, ◌++◌, map, length, get_or, take, set, Bool, true, false, cond, Some, None, arith, ap, ap₂, sym, ◌∙◌, refl, add-one}
+-- Lists of the columns and rows that pass a test.
+use Rattle.std.proofs.Common.{◌≡◌, ℕ, zero, suc, ◌+◌, ◌<◌, ◌≤◌, List, [], ◌∷◌, ◌++◌, length, take, set, Bool, true, false, cond, Some, None, arith, ap, ap₂, sym, ◌∙◌, refl, add-one}
 use Rattle.std.specs.List.{range_with_len, filter}
 use Rattle.std.proofs.lemmas.List.{append-nil}
 use Rattle.std.proofs.lemmas.List.Elements.{filter-append}
 use Rattle.std.proofs.lemmas.Grind.{take-set_at}
-use Rattle.npp_frac.specs.Rational.{Rational, zero_ℚ, is_less}
-use Rattle.npp_lp.specs.Programs.{at}
-use Rattle.npp_simplex.specs.declared.shape.Shape.{Shape}
+use Rattle.npp_frac.specs.Rational.{zero_ℚ, is_less}
 use Rattle.npp_simplex.specs.Tableau.{Tableau, cell}
 use Rattle.npp_simplex.specs.Ratio.{rising_at}
-use Rattle.npp_simplex.specs.Meaning.{tableau_of, cell_count}
-use Rattle.npp_simplex.proofs.Tables.{table_cell, place_in_table, at_read}
-
--- a cell of the table that a list stands for
-pub cell_at : {N : Type 0} (v : N → Rational) (s : Shape) (cells : List N) (i j : ℕ) → i < s.rows + 2 → j < s.columns + s.rows + 2 → cell (tableau_of v s cells) i j ≡ at (map v cells) (i * (s.columns + s.rows + 2) + j)
-cell_at v s cells i j a b = table_cell (s.rows + 2) (s.columns + s.rows + 2) (λ i j. at (map v cells) (i * (s.columns + s.rows + 2) + j)) i j a b
-
-pub cell_read : {N : Type 0} (v : N → Rational) (s : Shape) (cells : List N) (i j k : ℕ) (x : N) → i < s.rows + 2 → j < s.columns + s.rows + 2 → length cells ≡ cell_count s → k ≡ i * (s.columns + s.rows + 2) + j → x ≡ get_or cells k x → v x ≡ cell (tableau_of v s cells) i j
-cell_read v s cells i j k x a b whole e is =
-    let within : i * (s.columns + s.rows + 2) + j < (s.rows + 2) * (s.columns + s.rows + 2) = place_in_table i j (s.rows + 2) (s.columns + s.rows + 2) a b in
-    sym (at_read v cells k x (rw (e, whole) within) is) ∙ ap (at (map v cells)) e ∙ sym (cell_at v s cells i j a b)
 
 pub range_more : (a n : ℕ) → range_with_len a (n + 1) ≡ range_with_len a n ++ (a + n) ∷ []
 range_more a zero = ap (λ t. t ∷ []) (omega arith)

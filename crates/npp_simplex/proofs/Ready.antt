@@ -12,9 +12,9 @@ use Rattle.npp_simplex.specs.declared.stage.Stage.{Stage}
 use Rattle.npp_simplex.specs.declared.stage.Stage.TheVariants.{Entry, PhaseOne, PhaseTwo}
 use Rattle.npp_simplex.specs.Tableau.{Tableau, cell, table, width, height, extra_column, divided_cell, pivoted_cell, pivoted, cell_without_extra, without_extra}
 use Rattle.npp_simplex.specs.Run.{State, has_phase_one, first_cell, first_tableau, first_stage, stage_when_leaves, handed_on, state_after}
-use Rattle.npp_simplex.specs.Meaning.{HasNoExtra, IsReadyFor}
+use Rattle.npp_simplex.specs.Standing.{HasNoExtra, IsReadyFor}
 use Rattle.npp_simplex.proofs.Tables.{table_cell}
-use Rattle.npp_simplex.proofs.Zeros.{zero-/ℚ, less_product-zero, less_zero_product}
+use Rattle.npp_frac.specs.ZeroLaws.{zero-/ℚ, less_product-zero, less_zero_product}
 use Rattle.npp_simplex.proofs.Starting.{extra_apart}
 use Rattle.npp_simplex.proofs.RowStarts.{entry_none, first_goal_one, none_extra}
 

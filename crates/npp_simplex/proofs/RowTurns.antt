@@ -6,7 +6,7 @@ use Rattle.npp_frac.specs.Ring.{*ℚ-zero, -ℚ_self, -ℚ-zero, *ℚ-one, one-*
 use Rattle.npp_frac.specs.Division.{/ℚ-*ℚ, /ℚ_unique}
 use Rattle.npp_frac.specs.Sums.{unit, unit_other, unit_same}
 use Rattle.npp_lp.specs.Programs.{product_sum}
-use Rattle.npp_simplex.proofs.Zeros.{zero-/ℚ}
+use Rattle.npp_frac.specs.ZeroLaws.{zero-/ℚ}
 use Rattle.npp_simplex.proofs.Invariant.{combined, Solves, AreRows, IsGoalRow, IsExtraRow, turned_cell, turned_basis}
 use Rattle.npp_simplex.proofs.Sums.{+ℚ--ℚ_assoc, product_sum_same, product_sum-/ℚ, product_sum_reduced}
 use Rattle.npp_simplex.proofs.KeptRows.{combined_same}

@@ -12,7 +12,7 @@ use Rattle.npp_simplex.specs.declared.stage.Stage.{Stage}
 use Rattle.npp_simplex.specs.declared.stage.Stage.TheVariants.{Entry, PhaseOne, PhaseTwo}
 use Rattle.npp_simplex.specs.Tableau.{Tableau, cell}
 use Rattle.npp_simplex.specs.Places.{first_stop}
-use Rattle.npp_simplex.specs.Run.{State, Next, PivotOn, NoColumn, NoRow, next, state_after, Outcome, no_column, no_row, finished, stepped, turned, run_from, first_state, run}
+use Rattle.npp_simplex.specs.Run.{State, Next, PivotOn, NoColumn, NoRow, next, state_after, Outcome, no_column, finished, stepped, turned, run_from, first_state, run}
 use Rattle.npp_simplex.specs.Bases.{after_pivot, bases_from, AreSameColumns, AreAllDifferent, bases, basis_count, HasFewerPivots}
 use Rattle.npp_simplex.proofs.BasesDiffer.{IsLater, next_is_later, later_trans, later_differ}
 use Rattle.npp_simplex.proofs.Counting.{AreSome, few_bases}
@@ -102,11 +102,6 @@ module _ (limit : Option ℕ) (count : ℕ) where
   fewer_without_column PhaseOne t basis made bound l = l
   fewer_without_column PhaseTwo t basis made bound l = l
 
-  fewer_without_row : (s : Stage) (t : Tableau) (basis : List ℕ) (c made bound : ℕ) → made < count → HasFewerPivots count bound (no_row s t basis c made)
-  fewer_without_row Entry t basis c made bound l = l
-  fewer_without_row PhaseOne t basis c made bound l = l
-  fewer_without_row PhaseTwo t basis c made bound l = l
-
   none_made : (made : ℕ) (x : State) → IsRoom made x → made < count
   none_made made x room = let one : 1 + made ≤ count = room 0 in omega arith
 
@@ -120,7 +115,7 @@ module _ (limit : Option ℕ) (count : ℕ) where
   fewer_finished : (x : State) (made : ℕ) (n : Next) → next x ≡ n → IsRoom made x → HasFewerPivots count made (finished x made n)
   fewer_finished x made (PivotOn r c) e room = let one : 1 + (made + 1) ≤ count = room_after made x r c e room 0 in omega arith
   fewer_finished x made NoColumn e room = fewer_without_column x.stage x.tableau x.basis made made (none_made made x room)
-  fewer_finished x made (NoRow c) e room = fewer_without_row x.stage x.tableau x.basis c made made (none_made made x room)
+  fewer_finished x made (NoRow c) e room = none_made made x room
 
   fewer_stepped : (made bound : ℕ) (stop : Option Place) (rest : Outcome) → made + 1 < count → HasFewerPivots count bound rest → HasFewerPivots count bound (stepped made stop rest)
   fewer_stepped made bound None rest l h = h
@@ -131,7 +126,7 @@ module _ (limit : Option ℕ) (count : ℕ) where
       let after = room_after made x r c e room in
       fewer_stepped made bound (first_stop limit x.stage x.tableau r c) (rest (state_after x r c)) (none_made (made + 1) (state_after x r c) after) (h (state_after x r c) after)
   fewer_turned x made bound rest NoColumn e room h = fewer_without_column x.stage x.tableau x.basis made bound (none_made made x room)
-  fewer_turned x made bound rest (NoRow c) e room h = fewer_without_row x.stage x.tableau x.basis c made bound (none_made made x room)
+  fewer_turned x made bound rest (NoRow c) e room h = none_made made x room
 
   pub fewer_from : (left made : ℕ) (x : State) → IsRoom made x → HasFewerPivots count (left + made) (run_from limit left made x)
   fewer_from zero made x room =

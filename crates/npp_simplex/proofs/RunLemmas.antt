@@ -34,7 +34,7 @@ module _ (p : LinearProgram) (linear : IsLinearProgram p) where
       (optimal_proved p linear t basis x.sizes.rows x.sizes.columns x.sizes.basic x.rows x.goal x.positive x.basic (subst (λ k. rising_column t (k + 1) ≡ None) x.sizes.rows e))
 
   -- where no row may leave
-  proved_without_row : (s : Stage) (t : Tableau) (basis : List ℕ) (c made : ℕ) → IsReachedAt p s t basis → entering s t ≡ Some c → candidates s t c ≡ [] → IsProved p (no_row s t basis c made)
+  proved_without_row : (s : Stage) (t : Tableau) (basis : List ℕ) (c made : ℕ) → IsReachedAt p s t basis → entering s t ≡ Some c → candidates s t c ≡ [] → IsProved p (no_row t basis c made)
   proved_without_row Entry t basis c made x e f =
       let (h, l, below) = some_right_negative p x.stands in
       let size : length (range_with_len 0 t.rows) ≡ 0 = ap length f in

@@ -9,10 +9,11 @@ use Rattle.npp_simplex.specs.declared.stage.Stage.TheVariants.{Entry, PhaseOne, 
 use Rattle.npp_simplex.specs.declared.place.Place.{Place}
 use Rattle.npp_simplex.specs.Tableau.{Tableau, cell, width, height, extra_column, divided_cell}
 use Rattle.npp_simplex.specs.Places.{has_row, has_column, column_unless, fits_less_product, in_row, first_column, division_stop, row_stop, pivot_stop}
-use Rattle.npp_simplex.specs.Steps.{whole_division_stop, whole_row_stop, whole_pivot_stop}
-use Rattle.npp_simplex.specs.Meaning.{IsReadyFor}
-use Rattle.npp_simplex.proofs.Zeros.{FitsBelow-zero, fits_div-zero, fits_less_product-zero, fits_less_zero_product, zero-/ℚ}
-use Rattle.npp_simplex.proofs.Reducing.{first_below_same}
+use Rattle.npp_simplex.specs.Steps.{row_division_stop, whole_row_stop, whole_pivot_stop}
+use Rattle.npp_simplex.specs.Standing.{IsReadyFor}
+use Rattle.npp_frac.specs.ZeroLaws.{FitsBelow-zero, fits_div-zero, zero-/ℚ}
+use Rattle.npp_simplex.proofs.Zeros.{fits_less_product-zero, fits_less_zero_product}
+use Rattle.npp_simplex.proofs.FirstPlaces.{first_below_same}
 
 -- ---- what a stage has not is 0
 
@@ -61,15 +62,15 @@ module _ (w : ℕ) (s : Stage) (t : Tableau) (r c : ℕ) (wide : IsWidth w) (rea
   difference_fits i j e f =
       fits_less_product-zero w (cell t i j) (cell t i c) (divided_cell t r c j) wide (small (cell t i j) e) (ap (λ q. q /ℚ cell t r c) f ∙ zero-/ℚ (cell t r c))
 
-  division_agrees : division_stop (Some (limit_of w)) s t r c ≡ whole_division_stop (Some (limit_of w)) t r c
+  division_agrees : division_stop (Some (limit_of w)) s t r c ≡ in_row r (row_division_stop (limit_of w) t r c)
   division_agrees = ap (in_row r) (first_column_whole s t (λ j. fits_div (limit_of w) (cell t r j) (cell t r c)) (λ j none. quotient_fits j (absent_column s t j ready none r)))
 
-  row_agrees : (i : ℕ) → row_stop (Some (limit_of w)) s t r c i ≡ whole_row_stop (Some (limit_of w)) t r c i
+  row_agrees : (i : ℕ) → row_stop (Some (limit_of w)) s t r c i ≡ whole_row_stop (limit_of w) t r c i
   row_agrees i =
       ap (in_row i) (first_column_whole s t (λ j. fits_less_product (limit_of w) (cell t i j) (cell t i c) (divided_cell t r c j)) (λ j none.
       difference_fits i j (absent_column s t j ready none i) (absent_column s t j ready none r)))
 
-  row_clear : (i : ℕ) → has_row s t i ≡ false → whole_row_stop (Some (limit_of w)) t r c i ≡ None
+  row_clear : (i : ℕ) → has_row s t i ≡ false → whole_row_stop (limit_of w) t r c i ≡ None
   row_clear i none =
       let zero = absent_row s t i ready none in
       let g : ℕ → Option ℕ = λ j. column_unless (fits_less_product (limit_of w) (cell t i j) (cell t i c) (divided_cell t r c j)) j in
@@ -77,14 +78,14 @@ module _ (w : ℕ) (s : Stage) (t : Tableau) (r c : ℕ) (wide : IsWidth w) (rea
       ap (λ b. column_unless b j) (sym (fits_less_zero_product w (cell t i j) (cell t i c) (divided_cell t r c j) wide (small (cell t i j) (zero j)) (zero c)))))
 
   rows_agree : first_below (height t) (λ i. cond (has_row s t i && not (nat_eq i r)) (row_stop (Some (limit_of w)) s t r c i) None)
-      ≡ first_below (height t) (λ i. cond (nat_eq i r) None (whole_row_stop (Some (limit_of w)) t r c i))
+      ≡ first_below (height t) (λ i. cond (nat_eq i r) None (whole_row_stop (limit_of w) t r c i))
   rows_agree =
       let f : ℕ → Option Place = λ i. cond (has_row s t i && not (nat_eq i r)) (row_stop (Some (limit_of w)) s t r c i) None in
-      let g : ℕ → Option Place = λ i. cond (nat_eq i r) None (whole_row_stop (Some (limit_of w)) t r c i) in
+      let g : ℕ → Option Place = λ i. cond (nat_eq i r) None (whole_row_stop (limit_of w) t r c i) in
       first_below_same f g (height t) (λ i l.
-      row_by (has_row s t i) (nat_eq i r) (row_stop (Some (limit_of w)) s t r c i) (whole_row_stop (Some (limit_of w)) t r c i) (row_agrees i) (row_clear i))
+      row_by (has_row s t i) (nat_eq i r) (row_stop (Some (limit_of w)) s t r c i) (whole_row_stop (limit_of w) t r c i) (row_agrees i) (row_clear i))
 
-  pub stops_agree : pivot_stop (Some (limit_of w)) s t r c ≡ whole_pivot_stop (Some (limit_of w)) t r c
+  pub stops_agree : pivot_stop (Some (limit_of w)) s t r c ≡ whole_pivot_stop (limit_of w) t r c
   stops_agree =
       ap (λ o. or_else o (first_below (height t) (λ i. cond (has_row s t i && not (nat_eq i r)) (row_stop (Some (limit_of w)) s t r c i) None))) division_agrees
-      ∙ ap (or_else (whole_division_stop (Some (limit_of w)) t r c)) rows_agree
+      ∙ ap (or_else (in_row r (row_division_stop (limit_of w) t r c))) rows_agree

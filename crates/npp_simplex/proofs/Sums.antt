@@ -2,8 +2,8 @@
 use Rattle.std.proofs.Common.{◌≡◌, ℕ, ◌+◌, ◌<◌, refl, inl, inr, arith, ap, ap₂, sym, ◌∙◌}
 use Rattle.std.proofs.lemmas.Bool.{cases_eq}
 use Rattle.npp_frac.specs.Rational.{Rational, zero_ℚ, one_ℚ, negative, reciprocal, ◌+ℚ◌, ◌-ℚ◌, ◌*ℚ◌, ◌/ℚ◌}
-use Rattle.npp_frac.specs.Ring.{+ℚ_assoc, -ℚ-*ℚ, +ℚ-*ℚ, *ℚ_assoc, *ℚ_comm, zero-*ℚ, one-*ℚ}
-use Rattle.npp_frac.specs.Sums.{sum_to, sum_to_same, sum_to_zero, sum_to-+ℚ, sum_to--ℚ, sum_to-*ℚ, unit, unit_other, unit_same, sum_to-unit}
+use Rattle.npp_frac.specs.Ring.{+ℚ_assoc, -ℚ-*ℚ, *ℚ_assoc, *ℚ_comm, zero-*ℚ, one-*ℚ}
+use Rattle.npp_frac.specs.Sums.{sum_to, sum_to_same, sum_to_zero, sum_to--ℚ, sum_to-*ℚ, unit, unit_other, unit_same, sum_to-unit}
 use Rattle.npp_lp.specs.Programs.{product_sum}
 
 -- ---- numbers
@@ -49,11 +49,6 @@ product_sum_comm n a b = sum_to_same n (λ j. a j *ℚ b j) (λ j. b j *ℚ a j)
 pub product_sum_zero : (n : ℕ) (a w : ℕ → Rational) → ((j : ℕ) → j < n → a j ≡ zero_ℚ) → product_sum n a w ≡ zero_ℚ
 product_sum_zero n a w h = sum_to_none n (λ j. a j *ℚ w j) (λ j l. ap (λ t. t *ℚ w j) (h j l) ∙ zero-*ℚ (w j))
 
-pub product_sum-+ℚ : (n : ℕ) (a b w : ℕ → Rational) → product_sum n (λ j. a j +ℚ b j) w ≡ product_sum n a w +ℚ product_sum n b w
-product_sum-+ℚ n a b w =
-    sum_to_same n (λ j. (a j +ℚ b j) *ℚ w j) (λ j. a j *ℚ w j +ℚ b j *ℚ w j) (λ j l. +ℚ-*ℚ (a j) (b j) (w j))
-    ∙ sum_to-+ℚ n (λ j. a j *ℚ w j) (λ j. b j *ℚ w j)
-
 pub product_sum--ℚ : (n : ℕ) (a b w : ℕ → Rational) → product_sum n (λ j. a j -ℚ b j) w ≡ product_sum n a w -ℚ product_sum n b w
 product_sum--ℚ n a b w =
     sum_to_same n (λ j. (a j -ℚ b j) *ℚ w j) (λ j. a j *ℚ w j -ℚ b j *ℚ w j) (λ j l. -ℚ-*ℚ (a j) (b j) (w j))
@@ -74,17 +69,6 @@ product_sum-/ℚ n p a w =
 pub product_sum_reduced : (n : ℕ) (y : Rational) (a b w : ℕ → Rational) → product_sum n (λ j. a j -ℚ y *ℚ b j) w ≡ product_sum n a w -ℚ y *ℚ product_sum n b w
 product_sum_reduced n y a b w = product_sum--ℚ n a (λ j. y *ℚ b j) w ∙ ap (λ t. product_sum n a w -ℚ t) (product_sum-*ℚ n y b w)
 
--- the same, in the second factor
-pub product_sum_right--ℚ : (n : ℕ) (a v w : ℕ → Rational) → product_sum n a (λ j. v j -ℚ w j) ≡ product_sum n a v -ℚ product_sum n a w
-product_sum_right--ℚ n a v w =
-    product_sum_comm n a (λ j. v j -ℚ w j) ∙ product_sum--ℚ n v w a ∙ ap₂ ◌-ℚ◌ (product_sum_comm n v a) (product_sum_comm n w a)
-
-pub product_sum_right-*ℚ : (n : ℕ) (q : Rational) (a w : ℕ → Rational) → product_sum n a (λ j. q *ℚ w j) ≡ q *ℚ product_sum n a w
-product_sum_right-*ℚ n q a w = product_sum_comm n a (λ j. q *ℚ w j) ∙ product_sum-*ℚ n q w a ∙ ap (λ t. q *ℚ t) (product_sum_comm n w a)
-
 -- a unit on either side reads the other
 pub product_sum_unit : (n i : ℕ) (w : ℕ → Rational) → i < n → product_sum n (unit i one_ℚ) w ≡ w i
 product_sum_unit n i w l = sum_to-unit n i one_ℚ w l ∙ one-*ℚ (w i)
-
-pub product_sum_right_unit : (n i : ℕ) (a : ℕ → Rational) → i < n → product_sum n a (unit i one_ℚ) ≡ a i
-product_sum_right_unit n i a l = product_sum_comm n a (unit i one_ℚ) ∙ product_sum_unit n i a l

@@ -1,6 +1,5 @@
 -- Tables, and the lists in which they lie row after row.
-use Rattle.std.proofs.Common.{◌≡◌, ◌≢◌, ℕ, zero, suc, ◌+◌, ◌*◌, ◌<◌, ◌≤◌, List, [], ◌∷◌, map, length, get_or, arith, ap, ap₂, sym, ◌∙◌, refl, inl, inr, add-one}
-use Rattle.std.proofs.lemmas.Bool.{cases_order}
+use Rattle.std.proofs.Common.{◌≡◌, ℕ, zero, suc, ◌+◌, ◌*◌, ◌<◌, ◌≤◌, List, [], ◌∷◌, map, length, get_or, arith, ap, ap₂, sym, ◌∙◌, refl, add-one}
 use Rattle.std.specs.List.{range_with_len}
 use Rattle.std.proofs.lemmas.List.FromFn.{get_or-map-range_with_len}
 use Rattle.std.proofs.Math.Nat.{mul-le-mul_right}
@@ -13,13 +12,6 @@ row_in_table i h w l = let k : suc i * w ≤ h * w = mul-le-mul_right w l in ome
 
 pub place_in_table : (i j h w : ℕ) → i < h → j < w → i * w + j < h * w
 place_in_table i j h w l k = omega (arith, row_in_table i h w l)
-
--- two places of one table are apart
-pub places_apart : (i j k l w : ℕ) → j < w → l < w → i ≢ k → i * w + j ≢ k * w + l
-places_apart i j k l w a b e same = elim (cases_order i k) [
-  | inl x ↦ absurd (e x)
-  | inr y ↦ elim y [ inl x ↦ omega (arith, row_in_table i k w x) | inr x ↦ omega (arith, row_in_table k i w x) ]
-]
 
 pub table_cell : (h w : ℕ) (f : ℕ → ℕ → Rational) (i j : ℕ) → i < h → j < w → at (get_or (table h w f) i []) j ≡ f i j
 table_cell h w f i j a b =

@@ -1,5 +1,5 @@
 -- One turn of a run.
-use Rattle.std.proofs.Common.{◌≡◌, ◌≢◌, ℕ, suc, ◌+◌, ◌<◌, List, [], ◌∷◌, length, slice_index, slice_index_or, Bool, Option, Some, None, IfSome, All, arith, ap, ap₂, sym, ◌∙◌, refl, subst}
+use Rattle.std.proofs.Common.{◌≡◌, ◌≢◌, ℕ, suc, ◌+◌, ◌<◌, List, [], ◌∷◌, length, slice_index, slice_index_or, Bool, Option, Some, None, Ok, Err, IfSome, All, arith, ap, ap₂, sym, ◌∙◌, refl, subst}
 use Rattle.std.specs.Prelude.{slice_set}
 use Rattle.std.specs.List.{range_with_len}
 use Rattle.std.proofs.lemmas.List.Elements.{All-filter, filter_passes}
@@ -7,15 +7,18 @@ use Rattle.std.proofs.lemmas.List.FromFn.{get_or-range_with_len, length-range_wi
 use Rattle.npp_frac.specs.Rational.{zero_ℚ, is_less}
 use Rattle.npp_frac.specs.Division.{not-zero_of_pos}
 use Rattle.npp_frac.specs.Order.{is_less_yes}
+use Rattle.npp_lp.specs.Verdict.{unless}
+use Rattle.npp_lp.specs.VerdictLaws.{unless_ok, unless_err}
 use Rattle.npp_simplex.specs.declared.stage.Stage.{Stage}
 use Rattle.npp_simplex.specs.declared.stage.Stage.TheVariants.{Entry, PhaseOne, PhaseTwo}
 use Rattle.npp_simplex.specs.declared.place.Place.{Place}
 use Rattle.npp_simplex.specs.Tableau.{Tableau, cell, extra_column, pivoted}
-use Rattle.npp_simplex.specs.Ratio.{entering, candidates, positive_rows, compared, keys, refined, leaving}
-use Rattle.npp_simplex.specs.Places.{ratio_stop, pivot_stop, first_stop}
-use Rattle.npp_simplex.specs.Run.{State, Next, PivotOn, NoColumn, NoRow, chosen_row, chosen_column, next, stage_after, handed_on, state_after, Overflow, stepped, turned, finished, run_from}
-use Rattle.npp_simplex.specs.Meaning.{AreCandidates, IsReadyFor}
-use Rattle.npp_simplex.proofs.Refining.{or_else_none, or_else_some}
+use Rattle.npp_simplex.specs.Ratio.{entering, candidates, positive_rows, keys, leaving}
+use Rattle.npp_simplex.specs.Places.{ratio_stop, pivot_stop, first_stop, remaining, pivot_row}
+use Rattle.npp_simplex.specs.Run.{State, Next, PivotOn, chosen_row, chosen_column, next, stage_when_leaves, stage_after, handed_on, state_after, Overflow, stepped, turned, run_from}
+use Rattle.npp_simplex.specs.Meaning.{AreCandidates}
+use Rattle.npp_simplex.specs.Standing.{IsReadyFor}
+use Rattle.npp_simplex.proofs.Refining.{or_else_none}
 
 pub some_more : (o : Option ℕ) (n : ℕ) → IfSome o (λ j. j < n) → IfSome o (λ j. j < n + 1)
 some_more None n h = h
@@ -50,50 +53,66 @@ candidates_are PhaseTwo t c h e k d l = positive_are t c k d l
 
 -- ---- one pivot
 
-pub state_is : (s n : Stage) (t u : Tableau) (b d : List ℕ) (r c : ℕ) → n ≡ stage_after s t b r → u ≡ handed_on s n (pivoted t r c) → d ≡ slice_set b r c
-    → record { stage = n; tableau = u; basis = d } ≡ state_after (record { stage = s; tableau = t; basis = b }) r c
-state_is s n t u b d r c e f h =
-    ap (λ z. record { stage = z; tableau = u; basis = d }) e
-    ∙ ap₂ (λ y z. record { stage = stage_after s t b r; tableau = y; basis = z }) (f ∙ ap (λ z. handed_on s z (pivoted t r c)) e) h
+module _ (limit : Option ℕ) (s : Stage) (t : Tableau) (c : ℕ) where
+  pivot_row_is : (rows : List ℕ) → 0 < length rows → pivot_row limit s t c rows ≡ unless (first_stop limit s t (leaving s t c) c) (Ok (Some (leaving s t c)))
+  pivot_row_is [] l = absurd (omega arith)
+  pivot_row_is (i ∷ rows) l = refl
 
-pub leaves : (s : Stage) (t : Tableau) (c r : ℕ) (rows : List ℕ) → rows ≡ candidates s t c → r ≡ slice_index (refined (compared s t c) (keys t) rows) 0 → r ≡ leaving s t c
-leaves s t c r rows e f = f ∙ ap (λ l. slice_index (refined (compared s t c) (keys t) l) 0) e
+  -- a row that leaves, and what stops its replacement
+  pub row_leaves : (r : ℕ) (o : Option Place) → 0 < length (candidates s t c) → Ok r ≡ remaining limit s t c (keys t) (candidates s t c) → pivot_stop limit s t r c ≡ o → unless o (Ok (Some r)) ≡ pivot_row limit s t c (candidates s t c)
+  row_leaves r o l e f =
+      let (fits, same) = unless_ok (ratio_stop limit s t c (keys t) (candidates s t c)) (leaving s t c) r (sym e) in
+      sym (pivot_row_is (candidates s t c) l
+      ∙ ap (λ o. unless o (Ok (Some (leaving s t c)))) (or_else_none (ratio_stop limit s t c (keys t) (candidates s t c)) (pivot_stop limit s t (leaving s t c) c) fits)
+      ∙ ap (λ q. unless (pivot_stop limit s t q c) (Ok (Some q))) same ∙ ap (λ o. unless o (Ok (Some r))) f)
 
-pub stop_in_ratio : (limit : Option ℕ) (s : Stage) (t : Tableau) (c r : ℕ) (rows : List ℕ) (p : Place) → rows ≡ candidates s t c → ratio_stop limit s t c (keys t) rows ≡ Some p → first_stop limit s t r c ≡ Some p
-stop_in_ratio limit s t c r rows p e f = or_else_some (ratio_stop limit s t c (keys t) (candidates s t c)) (pivot_stop limit s t r c) p (ap (ratio_stop limit s t c (keys t)) (sym e) ∙ f)
+  -- what the answer says of the choice
+  pub row_chosen : (rows : List ℕ) (r : ℕ) → Ok (Some r) ≡ pivot_row limit s t c rows → (chosen_row s t c rows ≡ PivotOn r c) × (first_stop limit s t r c ≡ None)
+  row_chosen [] r e = cc
+  row_chosen (i ∷ rows) r e =
+      let (fits, same) = unless_ok (first_stop limit s t (leaving s t c) c) (Some (leaving s t c)) (Some r) (sym e) in
+      let row : leaving s t c ≡ r = cc in
+      (ap (λ q. PivotOn q c) row, ap (λ q. first_stop limit s t q c) (sym row) ∙ fits)
 
-pub stop_in_pivot : (limit : Option ℕ) (s : Stage) (t : Tableau) (c r q : ℕ) (rows : List ℕ) (o : Option Place) → rows ≡ candidates s t c → ratio_stop limit s t c (keys t) rows ≡ None → o ≡ pivot_stop limit s t q c → q ≡ r → first_stop limit s t r c ≡ o
-stop_in_pivot limit s t c r q rows o e f g same =
-    or_else_none (ratio_stop limit s t c (keys t) (candidates s t c)) (pivot_stop limit s t r c) (ap (ratio_stop limit s t c (keys t)) (sym e) ∙ f) ∙ ap (λ z. pivot_stop limit s t z c) (sym same) ∙ sym g
+  pub stop_chosen : (rows : List ℕ) (p : Place) → Err p ≡ pivot_row limit s t c rows → (chosen_row s t c rows ≡ PivotOn (leaving s t c) c) × (first_stop limit s t (leaving s t c) c ≡ Some p)
+  stop_chosen [] p e = cc
+  stop_chosen (i ∷ rows) p e = (refl, unless_err (first_stop limit s t (leaving s t c) c) (Some (leaving s t c)) p (sym e))
+
+-- ---- the state after it
+
+handed_size : (s n : Stage) (t : Tableau) → ((handed_on s n t).rows ≡ t.rows) × ((handed_on s n t).columns ≡ t.columns)
+handed_size Entry n t = (refl, refl)
+handed_size PhaseOne Entry t = (refl, refl)
+handed_size PhaseOne PhaseOne t = (refl, refl)
+handed_size PhaseOne PhaseTwo t = (refl, refl)
+handed_size PhaseTwo n t = (refl, refl)
+
+module _ (s n : Stage) (t p u : Tableau) (b : List ℕ) (r c : ℕ) (pivots : p ≡ pivoted t r c) (hands : u ≡ handed_on s n p) where
+  pub same_rows : t.rows ≡ u.rows
+  same_rows = sym (ap (λ z. z.rows) hands ∙ (handed_size s n p).0 ∙ ap (λ z. z.rows) pivots)
+
+  pub same_columns : t.columns ≡ u.columns
+  same_columns = sym (ap (λ z. z.columns) hands ∙ (handed_size s n p).1 ∙ ap (λ z. z.columns) pivots)
+
+  -- the stage is told by the basic column that leaves
+  pub state_is : (extra leaves : ℕ) → n ≡ stage_when_leaves s extra leaves → extra ≡ p.columns + p.rows → leaves ≡ slice_index b r → record { stage = n; tableau = u; basis = slice_set b r c } ≡ state_after (record { stage = s; tableau = t; basis = b }) r c
+  state_is extra leaves stage e f =
+      let after : n ≡ stage_after s t b r = stage ∙ ap₂ (stage_when_leaves s) (e ∙ ap (λ z. z.columns + z.rows) pivots) f in
+      ap (λ z. record { stage = z; tableau = u; basis = slice_set b r c }) after
+      ∙ ap (λ z. record { stage = stage_after s t b r; tableau = z; basis = slice_set b r c }) (hands ∙ ap₂ (handed_on s) after pivots)
 
 -- ---- one turn
 
-not_empty : (s : Stage) (t : Tableau) (c : ℕ) (rows : List ℕ) → 0 < length rows → chosen_row s t c rows ≡ PivotOn (leaving s t c) c
-not_empty s t c [] l = absurd (omega arith)
-not_empty s t c (i ∷ rows) l = refl
-
-empty : (s : Stage) (t : Tableau) (c : ℕ) (rows : List ℕ) → length rows ≡ 0 → chosen_row s t c rows ≡ NoRow c
-empty s t c [] l = refl
-empty s t c (i ∷ rows) l = absurd (omega arith)
-
 module _ (limit : Option ℕ) (x : State) (made : ℕ) where
-  pub next_none : entering x.stage x.tableau ≡ None → next x ≡ NoColumn
-  next_none e = ap (chosen_column x.stage x.tableau) e
-
-  pub next_pivot : (c : ℕ) (rows : List ℕ) → entering x.stage x.tableau ≡ Some c → rows ≡ candidates x.stage x.tableau c → 0 < length rows → next x ≡ PivotOn (leaving x.stage x.tableau c) c
-  next_pivot c rows e f l = ap (chosen_column x.stage x.tableau) e ∙ ap (chosen_row x.stage x.tableau c) (sym f) ∙ not_empty x.stage x.tableau c rows l
-
-  pub next_row : (c : ℕ) (rows : List ℕ) → entering x.stage x.tableau ≡ Some c → rows ≡ candidates x.stage x.tableau c → length rows ≡ 0 → next x ≡ NoRow c
-  next_row c rows e f l = ap (chosen_column x.stage x.tableau) e ∙ ap (chosen_row x.stage x.tableau c) (sym f) ∙ empty x.stage x.tableau c rows l
-
   pub run_ends : (n : Next) (left : ℕ) → next x ≡ n → run_from limit (suc left) made x ≡ turned limit x made (λ y. run_from limit left (made + 1) y) n
   run_ends n left e = ap (turned limit x made (λ y. run_from limit left (made + 1) y)) e
-
-  pub run_finishes : (n : Next) → next x ≡ n → run_from limit 0 made x ≡ finished x made n
-  run_finishes n e = ap (finished x made) e
 
   pub run_goes_on : (r c left : ℕ) (y : State) → next x ≡ PivotOn r c → first_stop limit x.stage x.tableau r c ≡ None → y ≡ state_after x r c → run_from limit (suc left) made x ≡ run_from limit left (made + 1) y
   run_goes_on r c left y e f g = run_ends (PivotOn r c) left e ∙ ap (λ o. stepped made o (run_from limit left (made + 1) (state_after x r c))) f ∙ ap (run_from limit left (made + 1)) (sym g)
 
   pub run_stops : (r c left : ℕ) (p : Place) → next x ≡ PivotOn r c → first_stop limit x.stage x.tableau r c ≡ Some p → run_from limit (suc left) made x ≡ Overflow (made + 1) p
   run_stops r c left p e f = run_ends (PivotOn r c) left e ∙ ap (λ o. stepped made o (run_from limit left (made + 1) (state_after x r c))) f
+
+  -- a column enters
+  pub next_by : (c : ℕ) → entering x.stage x.tableau ≡ Some c → next x ≡ chosen_row x.stage x.tableau c (candidates x.stage x.tableau c)
+  next_by c e = ap (chosen_column x.stage x.tableau) e

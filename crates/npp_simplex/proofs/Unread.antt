@@ -8,7 +8,7 @@ use Rattle.npp_frac.specs.Rational.{Rational, zero_ℚ, negative, one_ℚ, is_le
 use Rattle.npp_frac.specs.Fits.{fits_div}
 use Rattle.npp_lp.specs.Programs.{at}
 use Rattle.npp_lp.specs.Verdict.{or_else}
-use Rattle.npp_simplex.specs.declared.answer.Step.TheVariants.{Ratio}
+use Rattle.npp_simplex.specs.declared.place.Step.TheVariants.{Ratio}
 use Rattle.npp_simplex.specs.declared.stage.Stage.TheVariants.{PhaseTwo}
 use Rattle.npp_simplex.specs.Tableau.{Tableau, cell, table, pivoted_cell, pivoted, divided_cell}
 use Rattle.npp_simplex.specs.Ratio.{rising_at, entering, candidates, compared, keys, least_rows, refined, leaving}
@@ -17,7 +17,7 @@ use Rattle.npp_simplex.specs.Vectors.{basic_row, basic_value, point, multipliers
 use Rattle.npp_simplex.specs.Run.{State, Next, PivotOn, NoColumn, NoRow, chosen_row, chosen_column, next, Outcome, Optimal, Unbounded, no_column, no_row, finished, stepped, turned, run_from}
 use Rattle.npp_simplex.specs.PhaseTwo.{AgreeWithoutExtra, HaveSameRuns}
 use Rattle.npp_simplex.proofs.Tables.{map_range_same}
-use Rattle.npp_simplex.proofs.Reducing.{first_below_same}
+use Rattle.npp_simplex.proofs.FirstPlaces.{first_below_same}
 use Rattle.npp_simplex.proofs.Agreeing.{Each, each_range, each_filter, filter_agrees, each_least, first_row_agrees, refined_agrees, least_agree}
 use Rattle.npp_simplex.proofs.Choices.{pivot_chosen, no_row_leaves}
 use Rattle.npp_simplex.proofs.FirstPlaces.{first_found, some_if, one_rises}
@@ -166,7 +166,7 @@ module _ (m n : ℕ) (a b : List (List Rational)) (same : Agree m n a b) where
         ap negative (same (m + 1) (n + k) goal (λ e. omega (arith, e, h)))))
         ∙ ap (λ v. Optimal (point (tableau m n b) basis) (multipliers (tableau m n b) (m + 1)) v made) (ap negative (same (m + 1) (n + m + 1) goal right))
 
-    unbounded_agrees : (c made : ℕ) → c ≢ n + m → no_row PhaseTwo (tableau m n a) basis c made ≡ no_row PhaseTwo (tableau m n b) basis c made
+    unbounded_agrees : (c made : ℕ) → c ≢ n + m → no_row (tableau m n a) basis c made ≡ no_row (tableau m n b) basis c made
     unbounded_agrees c made low = ap (λ d. Unbounded d made) (map_range_same (ray_value (tableau m n a) basis c) (ray_value (tableau m n b) basis c) 0 n (λ j l h.
         ap (cond (nat_eq j c) one_ℚ) (basic_agrees (λ i. negative (cell (tableau m n a) i c)) (λ i. negative (cell (tableau m n b) i c)) j (λ i il. ap negative (same i c il low)))))
 
@@ -185,7 +185,7 @@ module _ (m n : ℕ) (a b : List (List Rational)) (same : Agree m n a b) (basis 
     by None e = refl
     by (Some c) e = chosen_agrees m n a b same c (column_low c e)
 
-  ends_agree : (made c : ℕ) → next (state m n a basis) ≡ NoRow c → no_row PhaseTwo (tableau m n a) basis c made ≡ no_row PhaseTwo (tableau m n b) basis c made
+  ends_agree : (made c : ℕ) → next (state m n a basis) ≡ NoRow c → no_row (tableau m n a) basis c made ≡ no_row (tableau m n b) basis c made
   ends_agree made c e = unbounded_agrees m n a b same basis size c made (column_low c (no_row_leaves (state m n a basis) c e).0)
 
   finished_agrees : (made : ℕ) (k : Next) → next (state m n a basis) ≡ k → finished (state m n a basis) made k ≡ finished (state m n b basis) made k

@@ -5,7 +5,7 @@ use Rattle.npp_frac.specs.Rational.{Rational, whole, ratio, negative, reciprocal
 use Rattle.npp_frac.specs.Fits.{fits_add, fits_sub, fits_mul, fits_div}
 use Rattle.npp_frac.specs.Sums.{sum_by, sum_to}
 use Rattle.npp_lp.specs.Programs.{LinearProgram, Row, Term}
-use Rattle.npp_simplex.specs.declared.answer.Step.TheVariants.{Ratio, Pivot}
+use Rattle.npp_simplex.specs.declared.place.Step.TheVariants.{Ratio, Pivot}
 use Rattle.npp_simplex.specs.declared.place.Place.{Place}
 use Rattle.npp_simplex.specs.Run.{run, Outcome, Optimal, Infeasible, Unbounded, Overflow, Capped}
 use Rattle.npp_simplex.specs.Bases.{bases, choose, basis_count}

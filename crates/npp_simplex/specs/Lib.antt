@@ -4,9 +4,13 @@ pub mod Places
 pub mod Steps
 pub mod Vectors
 pub mod Run
+pub mod Layout
 pub mod Meaning
-pub mod Workspace
+pub mod Standing
+pub mod Turns
 pub mod Proved
 pub mod Bases
 pub mod PhaseTwo
+pub mod Widths
+pub mod WidthLaws
 pub mod Examples

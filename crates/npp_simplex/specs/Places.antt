@@ -1,14 +1,14 @@
 -- The first place of a pivot at which a number does not fit a width. With no limit every number fits.
-use Rattle.std.specs.Prelude.{ℕ, List, [], ◌∷◌, length, slice_index, Bool, true, not, ◌&&◌, Option, Some, None, nat_eq, if◌then◌else◌}
+use Rattle.std.specs.Prelude.{ℕ, List, [], ◌∷◌, length, slice_index, Bool, true, not, ◌&&◌, Option, Some, None, Result, Ok, nat_eq, if◌then◌else◌}
 use Rattle.npp_frac.specs.Rational.{Rational, ◌*ℚ◌}
 use Rattle.npp_frac.specs.Fits.{fits_sub, fits_mul, fits_div}
-use Rattle.npp_lp.specs.Verdict.{or_else, first_below}
+use Rattle.npp_lp.specs.Verdict.{or_else, first_below, unless}
 use Rattle.npp_simplex.specs.declared.place.Place.{Place}
-use Rattle.npp_simplex.specs.declared.answer.Step.TheVariants.{Ratio, Pivot}
+use Rattle.npp_simplex.specs.declared.place.Step.TheVariants.{Ratio, Pivot}
 use Rattle.npp_simplex.specs.declared.stage.Stage.{Stage}
 use Rattle.npp_simplex.specs.declared.stage.Stage.TheVariants.{Entry, PhaseOne, PhaseTwo}
 use Rattle.npp_simplex.specs.Tableau.{Tableau, extra_column, cell, divided_cell, width, height}
-use Rattle.npp_simplex.specs.Ratio.{candidates, compared, keys, least_rows}
+use Rattle.npp_simplex.specs.Ratio.{candidates, compared, keys, least_rows, refined, leaving}
 
 -- whether a stage has a row: phase two has no goal row of phase one
 abbrev pub has_row : Stage → Tableau → ℕ → Bool
@@ -63,6 +63,10 @@ ratio_stop limit s t c [] (i ∷ j ∷ rows) = None
 ratio_stop limit s t c (k ∷ keys) (i ∷ j ∷ rows) =
     or_else (quotients_stop limit s t c k (i ∷ j ∷ rows)) (ratio_stop limit s t c keys (least_rows (compared s t c k) (i ∷ j ∷ rows)))
 
+-- the row that remains of some rows when they are compared at one key after the other, or the first place that does not fit
+abbrev pub remaining : Option ℕ → Stage → Tableau → ℕ → List ℕ → List ℕ → Result ℕ Place
+remaining limit s t c keys rows = unless (ratio_stop limit s t c keys rows) (Ok (slice_index (refined (compared s t c) keys rows) 0))
+
 -- the place in a row of a replacement
 abbrev pub in_row : ℕ → Option ℕ → Option Place
 in_row i None = None
@@ -90,3 +94,9 @@ pivot_stop limit s t r c =
 -- in a whole pivot: its ratio test, and then its replacement
 abbrev pub first_stop : Option ℕ → Stage → Tableau → ℕ → ℕ → Option Place
 first_stop limit s t r c = or_else (ratio_stop limit s t c (keys t) (candidates s t c)) (pivot_stop limit s t r c)
+
+-- the row that leaves when column c enters, whose candidates are these; none where there are none, or the first place of the
+-- pivot that does not fit
+abbrev pub pivot_row : Option ℕ → Stage → Tableau → ℕ → List ℕ → Result (Option ℕ) Place
+pivot_row limit s t c [] = Ok None
+pivot_row limit s t c (i ∷ rows) = unless (first_stop limit s t (leaving s t c) c) (Ok (Some (leaving s t c)))

@@ -124,17 +124,15 @@ no_column Entry t basis made = Infeasible (multipliers t t.rows) made
 no_column PhaseOne t basis made = Infeasible (multipliers t t.rows) made
 no_column PhaseTwo t basis made = Optimal (point t basis) (multipliers t (t.rows + 1)) (value t) made
 
--- no row may leave: in phase one this does not come
-abbrev pub no_row : Stage → Tableau → List ℕ → ℕ → ℕ → Outcome
-no_row Entry t basis c made = Infeasible (multipliers t t.rows) made
-no_row PhaseOne t basis c made = Infeasible (multipliers t t.rows) made
-no_row PhaseTwo t basis c made = Unbounded (ray t basis c) made
+-- no row may leave, which comes in phase two alone: the goal rises without end
+abbrev pub no_row : Tableau → List ℕ → ℕ → ℕ → Outcome
+no_row t basis c made = Unbounded (ray t basis c) made
 
 -- where no pivot is left, the run ends or is capped
 abbrev pub finished : State → ℕ → Next → Outcome
 finished x made (PivotOn r c) = Capped
 finished x made NoColumn = no_column x.stage x.tableau x.basis made
-finished x made (NoRow c) = no_row x.stage x.tableau x.basis c made
+finished x made (NoRow c) = no_row x.tableau x.basis c made
 
 -- after a pivot the run goes on, unless a number of the pivot does not fit
 abbrev pub stepped : ℕ → Option Place → Outcome → Outcome
@@ -145,7 +143,7 @@ stepped made None rest = rest
 abbrev pub turned : Option ℕ → State → ℕ → (State → Outcome) → Next → Outcome
 turned limit x made rest (PivotOn r c) = stepped made (first_stop limit x.stage x.tableau r c) (rest (state_after x r c))
 turned limit x made rest NoColumn = no_column x.stage x.tableau x.basis made
-turned limit x made rest (NoRow c) = no_row x.stage x.tableau x.basis c made
+turned limit x made rest (NoRow c) = no_row x.tableau x.basis c made
 
 -- the run from a state on, after so many pivots and with so many left
 abbrev pub run_from : Option ℕ → ℕ → ℕ → State → Outcome

@@ -48,6 +48,10 @@ pivoted_cell t r c i j = if nat_eq i r then divided_cell t r c j else cell t i j
 abbrev pub with_cells : Tableau → (ℕ → ℕ → Rational) → Tableau
 with_cells t f = record { rows = t.rows; columns = t.columns; cells = table (height t) (width t) f }
 
+-- the tableau with these numbers in row i
+abbrev pub with_row : Tableau → ℕ → (ℕ → Rational) → Tableau
+with_row t i row = with_cells t (λ k j. if nat_eq k i then row j else cell t k j)
+
 -- the tableau after the pivot on row r and column c
 abbrev pub pivoted : Tableau → ℕ → ℕ → Tableau
 pivoted t r c = with_cells t (pivoted_cell t r c)

@@ -1,19 +1,10 @@
 //! What a run of the simplex answers.
 
-/// The two steps of a pivot.
-#[derive(Clone, Copy, PartialEq, Eq, Debug)]
-pub enum Step {
-    /// The ratio test, which chooses the row that leaves the basis.
-    Ratio,
-    /// The replacement of the tableau's numbers.
-    Pivot,
-}
+use crate::place::Place;
 
 /// How a run of the lexicographic simplex ends.
 ///
-/// A place of the tableau is given by its row, numbered from 0 with the two goal rows last, and its
-/// column: those of the program, then a slack for each row, then the extra variable of phase one, then
-/// the right side.
+/// Only its end depends on the width: a run that ends without an overflow has the same answer at each greater one.
 #[derive(Debug, Drop)]
 pub enum Answer<N> {
     /// A point with the greatest goal, multipliers of the rows that prove it, and the goal there.
@@ -45,12 +36,8 @@ pub enum Answer<N> {
     Overflow {
         /// The pivot, numbered from 1.
         pivot: u32,
-        /// The step of the pivot.
-        step: Step,
-        /// The row of the number.
-        row: u32,
-        /// The column of the number; in a ratio test that of the entry that is divided.
-        column: u32,
+        /// Where in the pivot.
+        place: Place,
     },
     /// The run has more pivots than were allowed.
     Capped,

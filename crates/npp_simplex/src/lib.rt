@@ -4,20 +4,25 @@
 mod answer;
 mod cells;
 mod clear;
-mod end;
+mod ends;
 mod first;
+mod laws;
 mod numbers;
 mod pivot;
 mod place;
 mod ratio;
+mod room;
+mod row;
 mod run;
 mod shape;
 mod solver;
 mod stage;
+mod tableau;
 #[cfg(test)]
 mod tests;
 mod vectors;
-mod workspace;
 
-pub use answer::{Answer, Step};
+pub use answer::Answer;
+pub use laws::{narrow_run_is_each_wider_run, no_basis_comes_twice, phase_two_reads_no_extra};
+pub use place::{Place, Step};
 pub use solver::solve;

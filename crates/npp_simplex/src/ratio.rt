@@ -1,66 +1,60 @@
 //! The ratio test: the lexicographic choice of the row that leaves the basis.
 
-ghost use Rattle.std.specs.Prelude.{◌≡◌, ◌≢◌, ℕ, ◌+◌, ◌<◌, ◌≤◌, ◌^◌, length, take, Some, None, is_some, IfSome, IfNone, IfOk, IfErr, map, slice_index};
+ghost use Rattle.std.specs.Prelude.{◌≡◌, ℕ, ◌<◌, ◌≤◌, length, take, Some, None, is_some, IfSome, IfNone, IfOk, IfErr, map, slice_index};
 ghost use Rattle.std.specs.List.{range_with_len};
-ghost use Rattle.npp_frac.specs.Rational.{zero_ℚ};
 ghost use Rattle.npp_frac.specs.Fits.{limit_of};
 ghost use Rattle.npp_lp.specs.Programs.{at};
-ghost use Rattle.npp_simplex.specs.Tableau.{cell as cell_of};
-ghost use Rattle.npp_simplex.specs.Ratio.{compared as compared_of, keys, least_rows, refined};
-ghost use Rattle.npp_simplex.specs.Places.{quotient_fits, quotients_stop, ratio_stop};
-ghost use Rattle.npp_simplex.specs.Meaning.{tableau_of, cell_count, IsCandidate, AreCandidates, IsLeastOf, rows_up_to};
+ghost use Rattle.npp_simplex.specs.Tableau.{width};
+ghost use Rattle.npp_simplex.specs.Ratio.{compared as compared_of, keys, least_rows};
+ghost use Rattle.npp_simplex.specs.Places.{quotient_fits, quotients_stop, remaining};
+ghost use Rattle.npp_simplex.specs.Meaning.{IsCandidate, AreCandidates, IsLeastOf, rows_up_to};
 
-use crate::answer::Step;
-use crate::cells::cell;
 use crate::numbers::{lesser, quotient};
-use crate::place::Place;
-use crate::shape::Shape;
+use crate::place::{Place, Step};
 use crate::stage::{EnteringColumn, Stage};
+use crate::tableau::Tableau;
 use npp_frac::{Exact, is_below};
 
 /// What a row is compared by at a key, or None where it does not fit.
 pub fn compared<N: Exact>(
-    shape: Shape,
-    cells: &[N],
+    tableau: &Tableau<N>,
     entering: EnteringColumn,
     key: usize,
     row: usize,
 ) -> Option<N>
-    requires whole { length cells.now ≡ cell_count shape }
-    requires column { entering.column < shape.columns + shape.rows + 2 }
-    requires key { key < shape.columns + shape.rows + 2 }
-    requires row { IsCandidate (tableau_of N.rational shape cells.now) entering.column row }
-    ensures fits { is_some result ≡ quotient_fits (Some (limit_of N.WIDTH)) entering.stage (tableau_of N.rational shape cells.now) entering.column key row }
-    ensures exact { IfSome result (λ q. N.rational q ≡ compared_of entering.stage (tableau_of N.rational shape cells.now) entering.column key row) }
+    requires column { entering.column < width tableau.now }
+    requires key { key < width tableau.now }
+    requires row { IsCandidate tableau.now entering.column row }
+    ensures fits { is_some result ≡ quotient_fits (Some (limit_of N.WIDTH)) entering.stage tableau.now entering.column key row }
+    ensures exact { IfSome result (λ q. N.rational q ≡ compared_of entering.stage tableau.now entering.column key row) }
 {
-    let entry = cell(shape, cells, row, key);
+    let entry = tableau.entry(row, key);
     match entering.stage {
         Stage::Entry => Some(entry),
-        Stage::PhaseOne => quotient(entry, cell(shape, cells, row, entering.column)),
-        Stage::PhaseTwo => quotient(entry, cell(shape, cells, row, entering.column)),
+        Stage::PhaseOne => quotient(entry, tableau.entry(row, entering.column)),
+        Stage::PhaseTwo => quotient(entry, tableau.entry(row, entering.column)),
     }
 }
 
 /// Writes what each candidate is compared by at a key into a list, up to the first that does
 /// not fit, whose place it answers.
 pub fn compare_all<N: Exact>(
-    shape: Shape,
-    cells: &[N],
+    tableau: &Tableau<N>,
     entering: EnteringColumn,
     key: usize,
     candidates: &[u32],
     numbers: &mut [N],
 ) -> Option<Place>
-    requires whole { length cells.now ≡ cell_count shape }
-    requires column { entering.column < shape.columns + shape.rows + 2 }
-    requires key { key < shape.columns + shape.rows + 2 }
+    requires column { entering.column < width tableau.now }
+    requires key { key < width tableau.now }
     requires room { length candidates.now ≤ length numbers.old }
-    requires rows { AreCandidates (tableau_of N.rational shape cells.now) entering.column candidates.now }
-    ensures stop { result ≡ quotients_stop (Some (limit_of N.WIDTH)) entering.stage (tableau_of N.rational shape cells.now) entering.column key candidates.now }
-    ensures numbers { IfNone result ((k : ℕ) → k < length candidates.now → at (map N.rational numbers.new) k ≡ compared_of entering.stage (tableau_of N.rational shape cells.now) entering.column key (slice_index candidates.now k)) }
+    requires rows { AreCandidates tableau.now entering.column candidates.now }
+    ensures stop { result ≡ quotients_stop (Some (limit_of N.WIDTH)) entering.stage tableau.now entering.column key candidates.now }
+    ensures numbers { IfNone result ((k : ℕ) → k < length candidates.now → at (map N.rational numbers.new) k ≡ compared_of entering.stage tableau.now entering.column key (slice_index candidates.now k)) }
 {
+    let _shape = tableau.shape();
     for s in 0..candidates.len() {
-        match compared(shape, cells, entering, key, candidates[s] as usize) {
+        match compared(tableau, entering, key, candidates[s] as usize) {
             Some(number) => numbers[s] = number,
             None => {
                 return Some(Place {
@@ -104,27 +98,25 @@ pub fn keep<N: Exact>(candidates: &mut [u32], numbers: &[N], best: N) -> usize
 
 /// Moves those of the candidates that are least at a key to the front, and tells how many they are, or the place that does not fit.
 pub fn refine_at<N: Exact>(
-    shape: Shape,
-    cells: &[N],
+    tableau: &Tableau<N>,
     entering: EnteringColumn,
     key: usize,
     candidates: &mut [u32],
     numbers: &mut [N],
 ) -> Result<usize, Place>
-    requires whole { length cells.now ≡ cell_count shape }
-    requires column { entering.column < shape.columns + shape.rows + 2 }
-    requires key { key < shape.columns + shape.rows + 2 }
+    requires column { entering.column < width tableau.now }
+    requires key { key < width tableau.now }
     requires some { 0 < length candidates.old }
     requires room { length candidates.old ≤ length numbers.old }
-    requires rows { AreCandidates (tableau_of N.rational shape cells.now) entering.column candidates.old }
-    ensures stop { IfErr result (λ place. quotients_stop (Some (limit_of N.WIDTH)) entering.stage (tableau_of N.rational shape cells.now) entering.column key candidates.old ≡ Some place) }
-    ensures fits { IfOk result (λ left. quotients_stop (Some (limit_of N.WIDTH)) entering.stage (tableau_of N.rational shape cells.now) entering.column key candidates.old ≡ None) }
-    ensures rows { IfOk result (λ left. take left candidates.new ≡ least_rows (compared_of entering.stage (tableau_of N.rational shape cells.now) entering.column key) candidates.old) }
+    requires rows { AreCandidates tableau.now entering.column candidates.old }
+    ensures stop { IfErr result (λ place. quotients_stop (Some (limit_of N.WIDTH)) entering.stage tableau.now entering.column key candidates.old ≡ Some place) }
+    ensures fits { IfOk result (λ left. quotients_stop (Some (limit_of N.WIDTH)) entering.stage tableau.now entering.column key candidates.old ≡ None) }
+    ensures rows { IfOk result (λ left. take left candidates.new ≡ least_rows (compared_of entering.stage tableau.now entering.column key) candidates.old) }
     ensures some { IfOk result (λ left. 0 < left) }
     ensures within { IfOk result (λ left. left ≤ length candidates.old) }
 {
     let numbers = &mut numbers[..candidates.len()];
-    match compare_all(shape, cells, entering, key, candidates, numbers) {
+    match compare_all(tableau, entering, key, candidates, numbers) {
         Some(place) => Err(place),
         None => {
             let best = least(numbers);
@@ -133,37 +125,27 @@ pub fn refine_at<N: Exact>(
     }
 }
 
-/// The candidate that remains when they are compared at one slack after the other, or the place that does not fit.
+/// The candidate that remains when they are compared at one slack after the other, or the first place that does not fit.
 pub fn refine_by_slacks<N: Exact>(
-    shape: Shape,
-    cells: &[N],
+    tableau: &Tableau<N>,
     entering: EnteringColumn,
     candidates: &mut [u32],
     numbers: &mut [N],
 ) -> Result<u32, Place>
-    requires whole { length cells.now ≡ cell_count shape }
-    requires column { entering.column < shape.columns + shape.rows + 2 }
+    requires column { entering.column < width tableau.now }
     requires some { 0 < length candidates.old }
     requires room { length candidates.old ≤ length numbers.old }
-    requires rows { AreCandidates (tableau_of N.rational shape cells.now) entering.column candidates.old }
-    ensures stop { IfErr result (λ place. ratio_stop (Some (limit_of N.WIDTH)) entering.stage (tableau_of N.rational shape cells.now) entering.column (range_with_len shape.columns shape.rows) candidates.old ≡ Some place) }
-    ensures fits { IfOk result (λ row. ratio_stop (Some (limit_of N.WIDTH)) entering.stage (tableau_of N.rational shape cells.now) entering.column (range_with_len shape.columns shape.rows) candidates.old ≡ None) }
-    ensures row { IfOk result (λ row. row ≡ slice_index (refined (compared_of entering.stage (tableau_of N.rational shape cells.now) entering.column) (range_with_len shape.columns shape.rows) candidates.old) 0) }
-    ensures candidate { IfOk result (λ row. IsCandidate (tableau_of N.rational shape cells.now) entering.column row) }
+    requires rows { AreCandidates tableau.now entering.column candidates.old }
+    ensures row { result ≡ remaining (Some (limit_of N.WIDTH)) entering.stage tableau.now entering.column (range_with_len tableau.now.columns tableau.now.rows) candidates.old }
+    ensures candidate { IfOk result (λ row. IsCandidate tableau.now entering.column row) }
 {
+    let shape = tableau.shape();
     let mut left = candidates.len();
     for key in shape.columns..shape.extra() {
         if left < 2 {
             return Ok(candidates[0]);
         }
-        match refine_at(
-            shape,
-            cells,
-            entering,
-            key,
-            &mut candidates[..left],
-            numbers,
-        ) {
+        match refine_at(tableau, entering, key, &mut candidates[..left], numbers) {
             Ok(fewer) => left = fewer,
             Err(place) => return Err(place),
         }
@@ -171,50 +153,45 @@ pub fn refine_by_slacks<N: Exact>(
     Ok(candidates[0])
 }
 
-/// The candidate that leaves the basis, or the place of the ratio test that does not fit.
+/// The candidate that leaves the basis, or the first place of the ratio test that does not fit.
 pub fn leaving<N: Exact>(
-    shape: Shape,
-    cells: &[N],
+    tableau: &Tableau<N>,
     entering: EnteringColumn,
     candidates: &mut [u32],
     numbers: &mut [N],
 ) -> Result<u32, Place>
-    requires whole { length cells.now ≡ cell_count shape }
-    requires column { entering.column < shape.columns + shape.rows + 2 }
+    requires column { entering.column < width tableau.now }
     requires some { 0 < length candidates.old }
     requires room { length candidates.old ≤ length numbers.old }
-    requires rows { AreCandidates (tableau_of N.rational shape cells.now) entering.column candidates.old }
-    ensures stop { IfErr result (λ place. ratio_stop (Some (limit_of N.WIDTH)) entering.stage (tableau_of N.rational shape cells.now) entering.column (keys (tableau_of N.rational shape cells.now)) candidates.old ≡ Some place) }
-    ensures fits { IfOk result (λ row. ratio_stop (Some (limit_of N.WIDTH)) entering.stage (tableau_of N.rational shape cells.now) entering.column (keys (tableau_of N.rational shape cells.now)) candidates.old ≡ None) }
-    ensures row { IfOk result (λ row. row ≡ slice_index (refined (compared_of entering.stage (tableau_of N.rational shape cells.now) entering.column) (keys (tableau_of N.rational shape cells.now)) candidates.old) 0) }
-    ensures candidate { IfOk result (λ row. IsCandidate (tableau_of N.rational shape cells.now) entering.column row) }
+    requires rows { AreCandidates tableau.now entering.column candidates.old }
+    ensures row { result ≡ remaining (Some (limit_of N.WIDTH)) entering.stage tableau.now entering.column (keys tableau.now) candidates.old }
+    ensures candidate { IfOk result (λ row. IsCandidate tableau.now entering.column row) }
 {
     if candidates.len() < 2 {
         return Ok(candidates[0]);
     }
-    let left = refine_at(shape, cells, entering, shape.right(), candidates, numbers)?;
-    refine_by_slacks(shape, cells, entering, &mut candidates[..left], numbers)
+    let right = tableau.shape().right();
+    match refine_at(tableau, entering, right, candidates, numbers) {
+        Ok(left) => refine_by_slacks(tableau, entering, &mut candidates[..left], numbers),
+        Err(place) => Err(place),
+    }
 }
 
 /// The same of the first candidates in a list.
 pub fn leaving_of_first<N: Exact>(
-    shape: Shape,
-    cells: &[N],
+    tableau: &Tableau<N>,
     entering: EnteringColumn,
     candidates: &mut [u32],
     count: usize,
     numbers: &mut [N],
 ) -> Result<u32, Place>
-    requires whole { length cells.now ≡ cell_count shape }
-    requires column { entering.column < shape.columns + shape.rows + 2 }
+    requires column { entering.column < width tableau.now }
     requires some { 0 < count }
     requires count { count ≤ length candidates.old }
     requires room { length candidates.old ≤ length numbers.old }
-    requires rows { AreCandidates (tableau_of N.rational shape cells.now) entering.column (take count candidates.old) }
-    ensures stop { IfErr result (λ place. ratio_stop (Some (limit_of N.WIDTH)) entering.stage (tableau_of N.rational shape cells.now) entering.column (keys (tableau_of N.rational shape cells.now)) (take count candidates.old) ≡ Some place) }
-    ensures fits { IfOk result (λ row. ratio_stop (Some (limit_of N.WIDTH)) entering.stage (tableau_of N.rational shape cells.now) entering.column (keys (tableau_of N.rational shape cells.now)) (take count candidates.old) ≡ None) }
-    ensures row { IfOk result (λ row. row ≡ slice_index (refined (compared_of entering.stage (tableau_of N.rational shape cells.now) entering.column) (keys (tableau_of N.rational shape cells.now)) (take count candidates.old)) 0) }
-    ensures candidate { IfOk result (λ row. IsCandidate (tableau_of N.rational shape cells.now) entering.column row) }
+    requires rows { AreCandidates tableau.now entering.column (take count candidates.old) }
+    ensures row { result ≡ remaining (Some (limit_of N.WIDTH)) entering.stage tableau.now entering.column (keys tableau.now) (take count candidates.old) }
+    ensures candidate { IfOk result (λ row. IsCandidate tableau.now entering.column row) }
 {
-    leaving(shape, cells, entering, &mut candidates[..count], numbers)
+    leaving(tableau, entering, &mut candidates[..count], numbers)
 }

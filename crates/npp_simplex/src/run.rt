@@ -1,23 +1,68 @@
 //! The pivots of a run.
 
-ghost use Rattle.std.specs.Prelude.{◌≡◌, ℕ, suc, ◌+◌, ◌<◌, ◌≤◌, ◌^◌, length, take, Option, Some, None, List, IfOk, IfErr};
+ghost use Rattle.std.specs.Prelude.{◌≡◌, ℕ, suc, ◌+◌, ◌<◌, ◌≤◌, ◌^◌, Option, Some, IfSome, IfOk};
 ghost use Rattle.npp_frac.specs.Fits.{limit_of};
-ghost use Rattle.npp_simplex.specs.Ratio.{entering as entering_of, candidates as candidates_of, leaving as leaving_of};
-ghost use Rattle.npp_simplex.specs.Places.{first_stop};
-ghost use Rattle.npp_simplex.specs.Run.{run_from, state_after, stage_when_leaves};
-ghost use Rattle.npp_simplex.specs.Workspace.{IsRoom};
-ghost use Rattle.npp_simplex.specs.Meaning.{tableau_of, state_of, cell_count, AreCandidates, IsReadyFor, EndsWithin, ended};
+ghost use Rattle.npp_lp.specs.Meaning.{linear_program, IsProgram};
+ghost use Rattle.npp_simplex.specs.Ratio.{entering as entering_of, candidates as candidates_of};
+ghost use Rattle.npp_simplex.specs.Places.{pivot_row};
+ghost use Rattle.npp_simplex.specs.Run.{run_from, first_state, first_stage as first_stage_of, stage_when_leaves};
+ghost use Rattle.npp_simplex.specs.Standing.{IsReadyFor, IsRoom};
+ghost use Rattle.npp_simplex.specs.Turns.{pivoted_in, goes_on};
+ghost use Rattle.npp_simplex.specs.Meaning.{outcome_of};
 
-use crate::cells::{candidates, entering};
-use crate::clear::drop_extra;
-use crate::end::End;
-use crate::pivot::pivot;
+use crate::answer::Answer;
+use crate::ends::{no_column, unbounded};
 use crate::place::Place;
 use crate::ratio::leaving_of_first;
+use crate::room::{Room, numbers_from};
 use crate::shape::Shape;
 use crate::stage::{EnteringColumn, Stage};
-use crate::workspace::Room;
-use npp_frac::Exact;
+use crate::tableau::Tableau;
+use npp_frac::{Exact, Memory};
+use npp_lp::{Program, first_negative};
+use std::alloc::Global;
+use std::marker::Model;
+
+/// Where a run stands: its stage, its tableau, and the basic column of each row of the program. Contracts see it as the
+/// state of the run.
+#[derive(Drop)]
+pub struct State<N: Exact> {
+    stage: Stage,
+    tableau: Tableau<N>,
+    basis: Vec<u32>,
+    room: Room<N>,
+}
+
+impl<N: Exact> Model for State<N> {
+    ghost use Rattle.npp_simplex.specs.Run.{State as Stands};
+    ghost use Rattle.npp_simplex.specs.Standing.{IsStanding};
+
+    ghost Value = { Stands };
+
+    ghost view = { λ a. record { stage = a.stage; tableau = a.tableau; basis = a.basis.items } };
+
+    ghost invariant = { λ a. IsStanding a.stage a.tableau a.basis.items a.room };
+}
+
+/// What comes of a turn of a run: the next state, or the run's end.
+#[derive(Drop)]
+pub enum Turn<N: Exact> {
+    /// A pivot was made.
+    GoesOn(State<N>),
+    /// The run ends with this answer.
+    Ends(Answer<N>),
+}
+
+/// The stage in which a run begins.
+pub fn first_stage(phase_one: bool) -> Stage
+    ensures { result ≡ first_stage_of phase_one }
+{
+    if phase_one {
+        Stage::Entry
+    } else {
+        Stage::PhaseTwo
+    }
+}
 
 /// The stage after a pivot in which a basic column leaves.
 pub fn stage_after(shape: Shape, stage: Stage, leaving: u32) -> Stage
@@ -36,142 +81,130 @@ pub fn stage_after(shape: Shape, stage: Stage, leaving: u32) -> Stage
     }
 }
 
-/// Makes one pivot on the column, and tells the stage that follows or the place that does not fit.
-pub fn advance<N: Exact>(
-    shape: Shape,
-    cells: &mut [N],
-    basis: &mut [u32],
+/// Makes the pivot on a column that enters, and tells the row that leaves, or None where no row may leave. It answers
+/// the first place that does not fit.
+pub fn pivot_on<N: Exact>(
+    tableau: &mut Tableau<N>,
     entering: EnteringColumn,
-    count: usize,
     room: &mut Room<N>,
-) -> Result<Stage, Place>
-    requires whole { length cells.old ≡ cell_count shape }
-    requires column { entering.column < shape.columns + shape.rows + 1 }
-    requires basis { length basis.old ≡ shape.rows }
-    requires room { IsRoom shape room.old }
-    requires some { 0 < count }
-    requires count { count ≤ shape.rows }
-    requires rows { take count room.old.candidates.items ≡ candidates_of entering.stage (tableau_of N.rational shape cells.old) entering.column }
-    requires entry { AreCandidates (tableau_of N.rational shape cells.old) entering.column (candidates_of entering.stage (tableau_of N.rational shape cells.old) entering.column) }
-    requires ready { IsReadyFor entering.stage (tableau_of N.rational shape cells.old) }
-    ensures room { IsRoom shape room.new }
-    ensures stop { IfErr result (λ place. first_stop (Some (limit_of N.WIDTH)) entering.stage (tableau_of N.rational shape cells.old) (leaving_of entering.stage (tableau_of N.rational shape cells.old) entering.column) entering.column ≡ Some place) }
-    ensures fits { IfOk result (λ next. first_stop (Some (limit_of N.WIDTH)) entering.stage (tableau_of N.rational shape cells.old) (leaving_of entering.stage (tableau_of N.rational shape cells.old) entering.column) entering.column ≡ None) }
-    ensures state { IfOk result (λ next. state_of N.rational shape next cells.new basis.new ≡ state_after (state_of N.rational shape entering.stage cells.old basis.old) (leaving_of entering.stage (tableau_of N.rational shape cells.old) entering.column) entering.column) }
+) -> Result<Option<u32>, Place>
+    requires ready { IsReadyFor entering.stage tableau.old }
+    requires column { entering_of entering.stage tableau.old ≡ Some entering.column }
+    requires within { entering.column < tableau.old.columns + tableau.old.rows + 1 }
+    requires room { IsRoom tableau.old.rows tableau.old.columns room.old }
+    ensures row { result ≡ pivot_row (Some (limit_of N.WIDTH)) entering.stage tableau.old entering.column (candidates_of entering.stage tableau.old entering.column) }
+    ensures tableau { IfOk result (λ row. tableau.new ≡ pivoted_in tableau.old entering.column row) }
+    ensures within { IfOk result (λ row. IfSome row (λ r. r < tableau.old.rows)) }
+    ensures room { IsRoom tableau.old.rows tableau.old.columns room.new }
 {
     let candidates = room.candidates.as_mut_slice();
     let numbers = room.numbers.as_mut_slice();
     let columns = room.columns.as_mut_slice();
-    let row = leaving_of_first(shape, cells, entering, candidates, count, numbers)? as usize;
-    match pivot(shape, cells, row, entering.column, numbers, columns) {
-        Some(place) => Err(place),
-        None => {
-            let next = stage_after(shape, entering.stage, basis[row]);
-            basis[row] = entering.column as u32;
-            drop_extra(shape, cells, entering.stage, next);
-            Ok(next)
-        }
+    let count = tableau.candidates(entering.stage, entering.column, candidates);
+    if count == 0 {
+        return Ok(None);
+    }
+    match leaving_of_first(tableau, entering, candidates, count, numbers) {
+        Ok(row) => match tableau.pivot(row as usize, entering.column, numbers, columns) {
+            Some(place) => Err(place),
+            None => Ok(Some(row)),
+        },
+        Err(place) => Err(place),
     }
 }
 
-/// One turn of the run: it ends, or one pivot is made and the stage that follows is told.
-pub fn turn<N: Exact>(
-    shape: Shape,
-    cells: &mut [N],
-    basis: &mut [u32],
-    stage: Stage,
-    made: u32,
-    room: &mut Room<N>,
-) -> Result<Stage, End>
-    requires whole { length cells.old ≡ cell_count shape }
-    requires basis { length basis.old ≡ shape.rows }
-    requires room { IsRoom shape room.old }
-    requires made { made + 1 < 2 ^ 32 }
-    requires ready { IsReadyFor stage (tableau_of N.rational shape cells.old) }
-    ensures goes_on { IfOk result (λ next. (left : ℕ) → run_from (Some (limit_of N.WIDTH)) (suc left) made (state_of N.rational shape stage cells.old basis.old) ≡ run_from (Some (limit_of N.WIDTH)) left (made + 1) (state_of N.rational shape next cells.new basis.new)) }
-    ensures room { IsRoom shape room.new }
-    ensures ready { IfOk result (λ next. IsReadyFor next (tableau_of N.rational shape cells.new)) }
-    ensures ends { IfErr result (λ end. (left : ℕ) → run_from (Some (limit_of N.WIDTH)) (suc left) made (state_of N.rational shape stage cells.old basis.old) ≡ ended end (tableau_of N.rational shape cells.new) basis.new) }
-    ensures within { IfErr result (λ end. EndsWithin (shape.columns + shape.rows + 1) end) }
-{
-    match entering(shape, cells, stage) {
-        None => Err(End::NoColumn { stage, made }),
-        Some(column) => {
-            let entering = EnteringColumn {
-                stage,
-                column: column as usize,
-            };
-            let list = room.candidates.as_mut_slice();
-            let count = candidates(shape, cells, stage, entering.column, list);
-            if count == 0 {
-                return Err(End::NoRow {
-                    stage,
-                    column,
-                    made,
-                });
+impl<N: Exact> State<N> {
+    /// The state in which the run of a program begins.
+    pub fn first(alloc: Global, program: &Program<N>) -> Result<State<N>, Memory>
+        ensures state { IfOk result (λ state. state ≡ first_state (linear_program N.rational program.now)) }
+        ensures form { IsProgram N.rational program.now }
+    {
+        let shape = Shape {
+            rows: program.row_count(),
+            columns: program.columns() as usize,
+        };
+        let phase_one = first_negative(program.right()).is_some();
+        let tableau = Tableau::first(alloc, program, shape, phase_one)?;
+        let stage = first_stage(phase_one);
+        let basis = numbers_from(alloc, shape.columns, shape.rows)?;
+        let room = Room::new(alloc, shape)?;
+        Ok(State {
+            stage,
+            tableau,
+            basis,
+            room,
+        })
+    }
+
+    /// One turn of the run: it ends, or one pivot is made.
+    pub fn turn(self, alloc: Global, made: u32) -> Result<Turn<N>, Memory>
+        requires { made + 1 < 2 ^ 32 }
+        ensures { IfOk result (λ turn. (left : ℕ) → run_from (Some (limit_of N.WIDTH)) (suc left) made self ≡ goes_on N.rational (Some (limit_of N.WIDTH)) left made turn) }
+    {
+        let State {
+            stage,
+            mut tableau,
+            mut basis,
+            mut room,
+        } = self;
+        let Some(column) = tableau.entering(stage) else {
+            return Ok(Turn::Ends(no_column(alloc, stage, &tableau, basis.as_slice(), made)?));
+        };
+        let entering = EnteringColumn {
+            stage,
+            column: column as usize,
+        };
+        match pivot_on(&mut tableau, entering, &mut room) {
+            Ok(Some(row)) => {
+                let next = stage_after(tableau.shape(), stage, basis[row as usize]);
+                basis[row as usize] = column;
+                tableau.hand_on(stage, next);
+                Ok(Turn::GoesOn(State {
+                    stage: next,
+                    tableau,
+                    basis,
+                    room,
+                }))
             }
-            match advance(shape, cells, basis, entering, count, room) {
-                Ok(next) => Ok(next),
-                Err(place) => Err(End::Overflow {
-                    pivot: made + 1,
-                    place,
-                }),
-            }
+            Ok(None) => Ok(Turn::Ends(unbounded(alloc, &tableau, basis.as_slice(), column, made)?)),
+            Err(place) => Ok(Turn::Ends(Answer::Overflow {
+                pivot: made + 1,
+                place,
+            })),
         }
+    }
+
+    /// How the run ends where no more pivots are allowed.
+    pub fn last_look(self, alloc: Global, made: u32) -> Result<Answer<N>, Memory>
+        ensures { IfOk result (λ a. outcome_of N.rational a ≡ run_from (Some (limit_of N.WIDTH)) 0 made self) }
+    {
+        let State {
+            stage,
+            tableau,
+            basis,
+            mut room,
+        } = self;
+        let Some(column) = tableau.entering(stage) else {
+            return no_column(alloc, stage, &tableau, basis.as_slice(), made);
+        };
+        let list = room.candidates.as_mut_slice();
+        if tableau.candidates(stage, column as usize, list) == 0 {
+            return unbounded(alloc, &tableau, basis.as_slice(), column, made);
+        }
+        Ok(Answer::Capped)
     }
 }
 
-/// How the run ends where no more pivots are allowed.
-pub fn last_look<N: Exact>(
-    shape: Shape,
-    cells: &[N],
-    stage: Stage,
-    made: u32,
-    list: &mut [u32],
-) -> End
-    requires whole { length cells.now ≡ cell_count shape }
-    requires list { length list.old ≡ shape.rows }
-    ensures within { EndsWithin (shape.columns + shape.rows + 1) result }
-    ensures end { (limit : Option ℕ) (basis : List ℕ) → run_from limit 0 made (state_of N.rational shape stage cells.now basis) ≡ ended result (tableau_of N.rational shape cells.now) basis }
+/// The answer of a run from its first state on, with at most `cap` pivots.
+pub fn run<N: Exact>(alloc: Global, first: State<N>, cap: u32) -> Result<Answer<N>, Memory>
+    ensures { IfOk result (λ a. outcome_of N.rational a ≡ run_from (Some (limit_of N.WIDTH)) cap 0 first) }
 {
-    match entering(shape, cells, stage) {
-        None => End::NoColumn { stage, made },
-        Some(column) => {
-            if candidates(shape, cells, stage, column as usize, list) == 0 {
-                End::NoRow {
-                    stage,
-                    column,
-                    made,
-                }
-            } else {
-                End::Capped
-            }
-        }
-    }
-}
-
-/// Makes the pivots of a run, at most as many as the cap.
-pub fn work<N: Exact>(
-    shape: Shape,
-    cells: &mut [N],
-    basis: &mut [u32],
-    first: Stage,
-    cap: u32,
-    room: &mut Room<N>,
-) -> End
-    requires whole { length cells.old ≡ cell_count shape }
-    requires basis { length basis.old ≡ shape.rows }
-    requires room { IsRoom shape room.old }
-    requires ready { IsReadyFor first (tableau_of N.rational shape cells.old) }
-    ensures within { EndsWithin (shape.columns + shape.rows + 1) result }
-    ensures end { ended result (tableau_of N.rational shape cells.new) basis.new ≡ run_from (Some (limit_of N.WIDTH)) cap 0 (state_of N.rational shape first cells.old basis.old) }
-{
-    let mut stage = first;
+    let mut state = first;
     for made in 0..cap {
-        match turn(shape, cells, basis, stage, made, room) {
-            Ok(next) => stage = next,
-            Err(end) => return end,
+        match state.turn(alloc, made)? {
+            Turn::GoesOn(next) => state = next,
+            Turn::Ends(answer) => return Ok(answer),
         }
     }
-    last_look(shape, cells, stage, cap, room.candidates.as_mut_slice())
+    state.last_look(alloc, cap)
 }

@@ -3,8 +3,7 @@
 ghost use Rattle.std.specs.Prelude.{◌≡◌, ◌+◌, ◌*◌, ◌^◌, ◌<◌, ◌≤◌};
 
 /// The size of a program. Its tableau has two more rows, the goal rows, and its columns are those of
-/// the program, a slack for each row, the extra column of phase one and the right side. The numbers of
-/// a tableau are kept in one list, row after row.
+/// the program, a slack for each row, the extra column of phase one and the right side.
 #[derive(Clone, Copy, Debug)]
 pub struct Shape {
     /// How many rows the program has.
@@ -41,13 +40,6 @@ impl Shape {
         ensures { result ≡ self.columns + self.rows + 1 }
     {
         self.columns + self.rows + 1
-    }
-
-    /// How many numbers the tableau has.
-    pub fn size(self) -> usize
-        ensures { result ≡ (self.rows + 2) * (self.columns + self.rows + 2) }
-    {
-        self.height() * self.width()
     }
 
     /// Where a number stands in the list.

@@ -1,31 +1,31 @@
 //! Worked examples.
 
-ghost use Rattle.std.specs.Prelude.{◌+◌, ◌<◌, ◌^◌, length, IfOk, IfSome};
-ghost use Rattle.npp_lp.specs.Programs.{AreTerms};
-ghost use Rattle.npp_lp.specs.Meaning.{IsProgram, terms_of};
+ghost use Rattle.std.specs.Prelude.{◌≡◌, [], length, OnOk};
 
-use crate::{Answer, Step, solve};
+use crate::{Answer, Place, Step, solve};
 use npp_frac::{Exact, Frac32, Frac64, Memory, is_zero};
-use npp_lp::{Entry, Program};
-use std::alloc::{AllocError, Global};
+use npp_lp::{Program, ProgramBuilder};
+use std::alloc::Global;
 use std::test::Fail;
 
-/// The entries of a row with these coefficients.
-fn row<N: Exact>(alloc: Global, coefficients: &[N]) -> Result<Vec<Entry<N>>, AllocError>
-    requires { length coefficients.now < 2 ^ 31 }
-    ensures { IfOk result (λ entries. AreTerms (length coefficients.now) (terms_of N.rational entries.items)) }
+/// Writes a row with a coefficient for each column.
+fn write_row<N: Exact>(
+    builder: &mut ProgramBuilder<N>,
+    columns: u32,
+    coefficients: &[N],
+    right: N,
+) -> Result<(), Memory>
+    requires columns { builder.old.columns ≡ columns }
+    requires size { length coefficients.now ≡ columns }
+    requires begins { builder.old.next ≡ 0 }
+    ensures columns { OnOk result (builder.new.columns ≡ columns) }
+    ensures begins { OnOk result (builder.new.next ≡ 0) }
+    ensures ended { OnOk result (builder.new.entries ≡ []) }
 {
-    let mut entries = Vec::new(alloc);
-    for column in 0..coefficients.len() {
-        let value = coefficients[column];
-        if !is_zero(value) {
-            entries.push(Entry {
-                column: column as u32,
-                value,
-            })?;
-        }
+    for column in 0..columns {
+        builder.entry(column, coefficients[column as usize])?;
     }
-    Ok(entries)
+    builder.end_row(right)
 }
 
 /// The program with these rows and this goal. A row has a coefficient for each column, and its right side.
@@ -33,26 +33,20 @@ fn program<N: Exact>(
     alloc: Global,
     rows: &[(&[N], N)],
     goal: &[N],
-) -> Result<Option<Program<N>>, AllocError>
-    requires few { length rows.now + length goal.now < 2 ^ 31 }
-    ensures { IfOk result (λ p. IfSome p (IsProgram N.rational)) }
-{
-    let mut lines = Vec::new(alloc);
-    let mut right = Vec::new(alloc);
+) -> Result<Option<Program<N>>, Memory> {
+    let Ok(columns) = u32::try_from(goal.len()) else {
+        return Ok(None);
+    };
+    let mut builder = ProgramBuilder::new(alloc, columns)?;
     for i in 0..rows.len() {
-        let (coefficients, bound) = rows[i];
+        let (coefficients, right) = rows[i];
         if coefficients.len() != goal.len() {
             return Ok(None);
         }
-        lines.push(row(alloc, coefficients)?)?;
-        right.push(bound)?;
+        write_row(&mut builder, columns, coefficients, right)?;
     }
-    Ok(Some(Program {
-        columns: goal.len() as u32,
-        rows: lines,
-        right,
-        goal: Vec::from_slice(alloc, goal)?,
-    }))
+    let goal = Vec::from_slice(alloc, goal)?;
+    Ok(Some(builder.finish(goal)))
 }
 
 /// What the run answers, with at most so many pivots.
@@ -61,9 +55,7 @@ fn answer<N: Exact>(
     rows: &[(&[N], N)],
     goal: &[N],
     cap: u32,
-) -> Result<Answer<N>, Memory>
-    requires few { length rows.now + length goal.now < 2 ^ 31 }
-{
+) -> Result<Answer<N>, Memory> {
     match program(alloc, rows, goal)? {
         Some(program) => solve(alloc, &program, cap),
         None => Err(Memory),
@@ -95,14 +87,9 @@ fn is_best<N: Exact>(answer: &Answer<N>, point: &[(i128, i128)], best: i128) -> 
 }
 
 /// Whether the answer is that of this place in the first pivot.
-fn stops_at<N: Exact>(answer: &Answer<N>, at: Step, at_row: u32, at_column: u32) -> bool {
+fn stops_at<N: Exact>(answer: &Answer<N>, step: Step, row: u32, column: u32) -> bool {
     match answer {
-        Answer::Overflow {
-            pivot,
-            step,
-            row,
-            column,
-        } => *pivot == 1 && *step == at && *row == at_row && *column == at_column,
+        Answer::Overflow { pivot, place } => *pivot == 1 && *place == Place { step, row, column },
         _ => false,
     }
 }

@@ -2,13 +2,11 @@
 
 ghost use Rattle.std.specs.Prelude.{◌≡◌, ℕ, ◌+◌, ◌<◌, ◌≤◌, ◌^◌, length, map, IfSome, IfOk};
 ghost use Rattle.npp_frac.specs.Rational.{negative};
-ghost use Rattle.npp_simplex.specs.Tableau.{cell as cell_of};
+ghost use Rattle.npp_simplex.specs.Tableau.{cell as cell_of, height, width, right_column};
 ghost use Rattle.npp_simplex.specs.Vectors.{basic_row as basic_row_of, basic_value, point as point_of, multipliers as multipliers_of, ray as ray_of, ray_value};
-ghost use Rattle.npp_simplex.specs.Meaning.{tableau_of, cell_count};
 
-use crate::cells::cell;
 use crate::numbers::{negated, one, zero};
-use crate::shape::Shape;
+use crate::tableau::Tableau;
 use npp_frac::{Exact, Memory};
 use std::alloc::Global;
 
@@ -27,31 +25,26 @@ pub fn basic_row(basis: &[u32], column: u32) -> Option<u32>
 }
 
 /// The right side of its row where a column is basic, and 0 elsewhere.
-pub fn point_number<N: Exact>(shape: Shape, cells: &[N], basis: &[u32], j: u32) -> N
-    requires whole { length cells.now ≡ cell_count shape }
-    requires basis { length basis.now ≡ shape.rows }
-    ensures { N.rational result ≡ basic_value (λ i. cell_of (tableau_of N.rational shape cells.now) i (shape.columns + shape.rows + 1)) (basic_row_of basis.now j) }
+pub fn point_number<N: Exact>(tableau: &Tableau<N>, basis: &[u32], j: u32) -> N
+    requires basis { length basis.now ≡ tableau.now.rows }
+    ensures { N.rational result ≡ basic_value (λ i. cell_of tableau.now i (right_column tableau.now)) (basic_row_of basis.now j) }
 {
+    let shape = tableau.shape();
     match basic_row(basis, j) {
-        Some(i) => cell(shape, cells, i as usize, shape.right()),
+        Some(i) => tableau.entry(i as usize, shape.right()),
         None => zero(),
     }
 }
 
 /// The point: the right side of its row at each basic column, and 0 elsewhere.
-pub fn point<N: Exact>(
-    alloc: Global,
-    shape: Shape,
-    cells: &[N],
-    basis: &[u32],
-) -> Result<Vec<N>, Memory>
-    requires whole { length cells.now ≡ cell_count shape }
-    requires basis { length basis.now ≡ shape.rows }
-    ensures { IfOk result (λ list. map N.rational list.items ≡ point_of (tableau_of N.rational shape cells.now) basis.now) }
+pub fn point<N: Exact>(alloc: Global, tableau: &Tableau<N>, basis: &[u32]) -> Result<Vec<N>, Memory>
+    requires basis { length basis.now ≡ tableau.now.rows }
+    ensures { IfOk result (λ list. map N.rational list.items ≡ point_of tableau.now basis.now) }
 {
+    let shape = tableau.shape();
     let mut numbers = Vec::new(alloc);
     for j in 0..shape.columns {
-        match numbers.push(point_number(shape, cells, basis, j as u32)) {
+        match numbers.push(point_number(tableau, basis, j as u32)) {
             Ok(()) => {}
             Err(_) => return Err(Memory),
         }
@@ -62,17 +55,16 @@ pub fn point<N: Exact>(
 /// The multipliers: the negatives of the slack entries of a goal row.
 pub fn multipliers<N: Exact>(
     alloc: Global,
-    shape: Shape,
-    cells: &[N],
+    tableau: &Tableau<N>,
     goal: usize,
 ) -> Result<Vec<N>, Memory>
-    requires whole { length cells.now ≡ cell_count shape }
-    requires goal { goal < shape.rows + 2 }
-    ensures { IfOk result (λ list. map N.rational list.items ≡ multipliers_of (tableau_of N.rational shape cells.now) goal) }
+    requires goal { goal < height tableau.now }
+    ensures { IfOk result (λ list. map N.rational list.items ≡ multipliers_of tableau.now goal) }
 {
+    let shape = tableau.shape();
     let mut numbers = Vec::new(alloc);
     for k in 0..shape.rows {
-        match numbers.push(negated(cell(shape, cells, goal, shape.columns + k))) {
+        match numbers.push(negated(tableau.entry(goal, shape.columns + k))) {
             Ok(()) => {}
             Err(_) => return Err(Memory),
         }
@@ -81,17 +73,17 @@ pub fn multipliers<N: Exact>(
 }
 
 /// A number of the ray along a column: 1 there, and the negative of the column's entry at each basic column.
-pub fn ray_number<N: Exact>(shape: Shape, cells: &[N], basis: &[u32], column: u32, j: u32) -> N
-    requires whole { length cells.now ≡ cell_count shape }
-    requires basis { length basis.now ≡ shape.rows }
-    requires column { column < shape.columns + shape.rows + 2 }
-    ensures { N.rational result ≡ ray_value (tableau_of N.rational shape cells.now) basis.now column j }
+pub fn ray_number<N: Exact>(tableau: &Tableau<N>, basis: &[u32], column: u32, j: u32) -> N
+    requires basis { length basis.now ≡ tableau.now.rows }
+    requires column { column < width tableau.now }
+    ensures { N.rational result ≡ ray_value tableau.now basis.now column j }
 {
     if j == column {
         return one();
     }
+    let _shape = tableau.shape();
     match basic_row(basis, j) {
-        Some(i) => negated(cell(shape, cells, i as usize, column as usize)),
+        Some(i) => negated(tableau.entry(i as usize, column as usize)),
         None => zero(),
     }
 }
@@ -99,19 +91,18 @@ pub fn ray_number<N: Exact>(shape: Shape, cells: &[N], basis: &[u32], column: u3
 /// The ray along a column.
 pub fn ray<N: Exact>(
     alloc: Global,
-    shape: Shape,
-    cells: &[N],
+    tableau: &Tableau<N>,
     basis: &[u32],
     column: u32,
 ) -> Result<Vec<N>, Memory>
-    requires whole { length cells.now ≡ cell_count shape }
-    requires basis { length basis.now ≡ shape.rows }
-    requires column { column < shape.columns + shape.rows + 2 }
-    ensures { IfOk result (λ list. map N.rational list.items ≡ ray_of (tableau_of N.rational shape cells.now) basis.now column) }
+    requires basis { length basis.now ≡ tableau.now.rows }
+    requires column { column < width tableau.now }
+    ensures { IfOk result (λ list. map N.rational list.items ≡ ray_of tableau.now basis.now column) }
 {
+    let shape = tableau.shape();
     let mut numbers = Vec::new(alloc);
     for j in 0..shape.columns {
-        match numbers.push(ray_number(shape, cells, basis, column, j as u32)) {
+        match numbers.push(ray_number(tableau, basis, column, j as u32)) {
             Ok(()) => {}
             Err(_) => return Err(Memory),
         }

@@ -1,12 +1,6 @@
-use Rattle.std.proofs.Common.{◌≡◌, length, All}
-use Rattle.npp_frac.specs.Narrow.{value_of_64}
-use Rattle.npp_lp.specs.Programs.{Row, AreTerms}
-use Rattle.npp_lp.specs.Meaning.{rows_of}
+use Rattle.std.proofs.Common.{◌≡◌, [], length}
 use Rattle.npp_bench.proofs.dual.dense.Given as goal
 
--- as many rows as right sides, and each row is over the columns
+-- no row is being written
 abbrev pub invariant-loop-i : goal.invariant-loop-i
-invariant-loop-i l =
-    (length l.lines.items ≡ l.i)
-    × (length l.right.items ≡ l.i)
-    × All (λ (r : Row). AreTerms l.columns r.terms) (rows_of value_of_64 l.lines.items l.right.items)
+invariant-loop-i l = (l.builder.columns ≡ l.columns) × (l.builder.next ≡ 0) × (l.builder.entries ≡ []) × (length l.builder.rows ≡ l.i)

@@ -4,7 +4,7 @@ use Rattle.std.proofs.lemmas.List.{length-map}
 use Rattle.npp_frac.specs.Rational.{zero_ℚ, is_less}
 use Rattle.npp_lp.specs.Programs.{at}
 use Rattle.npp_lp.specs.VerdictLaws.{first_below_found}
-use Rattle.npp_lp.proofs.Lookups.{at-map}
+use Rattle.npp_lp.specs.ReadingLaws.{at-map}
 use Rattle.npp_lp.proofs.numbers.first_negative.Goals as goal
 
 pub returns-then-is_negative : goal.returns-then-is_negative

@@ -1,5 +1,5 @@
 use Rattle.std.proofs.Common.{sym}
-use Rattle.npp_lp.proofs.Zeros.{joined_sum-zero_left, joined_sum-zero_right}
+use Rattle.npp_lp.specs.ZeroSums.{joined_sum-zero_left, joined_sum-zero_right}
 use Rattle.npp_lp.proofs.sums.add_entry.Goals as goal
 
 pub returns-then-is_zero : goal.returns-then-is_zero

@@ -1,6 +1,6 @@
 use Rattle.std.proofs.Common.{rules}
 use Rattle.std.proofs.lemmas.List.Sorted.{answers_always}
-use Rattle.npp_lp.proofs.Coefficients.{coefficient_absent, coefficient_present, found_column, missed_column}
+use Rattle.npp_lp.specs.CoefficientLaws.{coefficient_absent, coefficient_present, found_column, missed_column}
 use Rattle.npp_lp.proofs.sums.entry_in.Goals as goal
 
 pub returns-in-Ok : goal.returns-in-Ok

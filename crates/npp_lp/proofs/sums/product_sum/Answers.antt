@@ -3,7 +3,7 @@ use Rattle.npp_frac.specs.Fits.{limit_of}
 use Rattle.npp_lp.specs.Programs.{at}
 use Rattle.npp_lp.specs.Meaning.{overflow_of}
 use Rattle.npp_lp.proofs.Adding.{checked_sum_begins, checked_sum_goes_on, checked_sum_ends, handed_on}
-use Rattle.npp_lp.proofs.Lookups.{at-map}
+use Rattle.npp_lp.specs.ReadingLaws.{at-map}
 use Rattle.npp_lp.proofs.sums.product_sum.Goals as goal
 
 pub loop-place-init : goal.loop-place-init

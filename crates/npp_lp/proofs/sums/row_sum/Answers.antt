@@ -4,7 +4,7 @@ use Rattle.npp_lp.specs.Programs.{at}
 use Rattle.npp_lp.specs.Checked.{no_term}
 use Rattle.npp_lp.specs.Meaning.{overflow_of, terms_of}
 use Rattle.npp_lp.proofs.Adding.{checked_sum_begins, checked_sum_goes_on, checked_sum_ends, handed_on}
-use Rattle.npp_lp.proofs.Lookups.{at-map, term_at, length-terms_of, in_range_at}
+use Rattle.npp_lp.specs.ReadingLaws.{at-map, term_at, length-terms_of, in_range_at}
 use Rattle.npp_lp.proofs.sums.row_sum.Goals as goal
 
 pub loop-entry-init : goal.loop-entry-init

@@ -2,7 +2,7 @@ use Rattle.std.proofs.Common.{◌≡◌, true, false, sym, ◌∙◌, ap}
 use Rattle.npp_frac.specs.Rational.{zero_ℚ, ◌-ℚ◌}
 use Rattle.npp_frac.specs.Ring.{negative_is}
 use Rattle.npp_frac.specs.Fits.{limit_of, fits_sub}
-use Rattle.npp_simplex.proofs.Zeros.{fits_sub-zero_left}
+use Rattle.npp_frac.specs.ZeroLaws.{fits_sub-zero_left}
 use Rattle.npp_simplex.proofs.numbers.negated.Goals as goal
 
 pub unreachable-requires : goal.unreachable-requires

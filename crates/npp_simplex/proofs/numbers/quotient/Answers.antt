@@ -1,7 +1,7 @@
 use Rattle.std.proofs.Common.{sym, ◌∙◌, ap}
 use Rattle.npp_frac.specs.Fits.{limit_of, fits_div}
 use Rattle.npp_frac.specs.Rational.{◌/ℚ◌}
-use Rattle.npp_simplex.proofs.Zeros.{fits_div-zero, zero-/ℚ}
+use Rattle.npp_frac.specs.ZeroLaws.{fits_div-zero, zero-/ℚ}
 use Rattle.npp_simplex.proofs.numbers.quotient.Goals as goal
 
 pub returns-then-is_zero : goal.returns-then-is_zero

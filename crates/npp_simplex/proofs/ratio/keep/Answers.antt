@@ -1,13 +1,10 @@
-use Rattle.std.proofs.Common.{◌≡◌, ℕ, Bool, map, not, refl, sym, ap, ◌∙◌, arith}
+use Rattle.std.proofs.Common.{◌≡◌, ℕ, Bool, map, not, sym, ap, ◌∙◌, arith}
 use Rattle.npp_frac.specs.Rational.{is_less}
 use Rattle.npp_lp.specs.Programs.{at}
 use Rattle.npp_simplex.proofs.Tables.{at_read}
 use Rattle.npp_simplex.proofs.Comparing.{kept_row, passed_row, rest_kept, rest_same}
 use Rattle.npp_simplex.proofs.ratio.keep.Goals as goal
 use Rattle.npp_simplex.proofs.ratio.keep.Goals.{then-not-is_below, else-not-is_below}
-
-pub loop-s-init : goal.loop-s-init
-loop-s-init g c = record { within = omega arith; rest = λ k l. refl; rows = refl }
 
 pub loop-s-preserved : goal.loop-s-preserved
 loop-s-preserved g c =

@@ -2,17 +2,13 @@ use Rattle.std.proofs.Common.{◌≡◌, ℕ, map, length, sym, ◌∙◌, arith
 use Rattle.std.proofs.lemmas.List.{length-map, length-take-le}
 use Rattle.npp_frac.specs.Rational.{Rational}
 use Rattle.npp_simplex.specs.Ratio.{compared}
-use Rattle.npp_simplex.specs.Meaning.{tableau_of}
 use Rattle.npp_simplex.proofs.Comparing.{kept_are_least, some_kept}
 use Rattle.npp_simplex.proofs.ratio.refine_at.Goals as goal
-
-pub returns-in-Some : goal.returns-in-Some
-returns-in-Some g c = record { stop = sym c.compare_all.ensures.stop ∙ c.in-Some.is; fits = tt; rows = tt; some = tt; within = tt }
 
 pub returns-in-None : goal.returns-in-None
 returns-in-None g c =
     let v = g.N.Exact.rational in
-    let number : ℕ → Rational = compared c.args.entering.stage (tableau_of v c.args.shape c.args.cells.now) c.args.entering.column c.args.key in
+    let number : ℕ → Rational = compared c.args.entering.stage c.args.tableau.now c.args.entering.column c.args.key in
     let rows = c.args.candidates.now in
     let xs = map v c.compare_all.new.numbers in
     let size : length xs ≡ length rows = omega (arith, length-map c.compare_all.new.numbers v, c.compare_all.auto.numbers, length-take-le (length rows) c.args.numbers.now c.requires.room) in

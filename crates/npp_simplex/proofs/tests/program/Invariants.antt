@@ -1,11 +1,6 @@
-use Rattle.std.proofs.Common.{◌≡◌, length, All}
-use Rattle.npp_lp.specs.Programs.{Row, AreTerms}
-use Rattle.npp_lp.specs.Meaning.{rows_of}
+use Rattle.std.proofs.Common.{◌≡◌, []}
 use Rattle.npp_simplex.proofs.tests.program.Given as goal
 
--- as many rows as right sides, and each row is over the columns
+-- no row is being written
 abbrev pub invariant-loop-i : goal.invariant-loop-i
-invariant-loop-i g l =
-    (length l.lines.items ≡ l.i)
-    × (length l.right.items ≡ l.i)
-    × All (λ (r : Row). AreTerms (length l.goal) r.terms) (rows_of g.N.Exact.rational l.lines.items l.right.items)
+invariant-loop-i g l = (l.builder.columns ≡ l.columns) × (l.builder.next ≡ 0) × (l.builder.entries ≡ [])
