@@ -61,6 +61,7 @@ zero_earned net ss ws least = record {
   positive = omega arith;
   outcome = record {
     vector = record { positive = omega arith; count = length-replicate {A = ℕ} (toll_count net.arcs) 0 };
+    ceilings = λ a u lt some. omega (arith, zeros (toll_count net.arcs) a);
     cheapest = least_are_cheapest net.arcs net.commodities ss ws least;
   };
   value = rw (earns_nothing net.arcs net.commodities ws) refl;

@@ -10,6 +10,7 @@ const FREE: NetArc = NetArc {
     head: NodeId(1),
     cost: 10,
     toll: false,
+    ceiling: None,
 };
 
 const TOLL: NetArc = NetArc {
@@ -17,6 +18,7 @@ const TOLL: NetArc = NetArc {
     head: NodeId(1),
     cost: 2,
     toll: true,
+    ceiling: None,
 };
 
 const THERE: Commodity = Commodity {

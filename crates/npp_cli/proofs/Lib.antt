@@ -9,4 +9,3 @@ pub mod PlainLemmas
 pub mod RunLemmas
 pub mod StatusLemmas
 pub mod Taking
-pub mod TollNumbers

@@ -10,6 +10,7 @@ use Rattle.npp_net.specs.declared.types.Walk.{Walk}
 use Rattle.npp_net.specs.Network.{Network, toll_count}
 use Rattle.npp_net.specs.Outcome.{IsUpperBound, revenue}
 use Rattle.npp_bounds.specs.declared.least.LeastCosts.{LeastCosts}
+use Rattle.npp_bounds.specs.Spans.{basic}
 use Rattle.npp_bounds.specs.LeastWalks.{AreLeastWalks, arc_lists}
 use Rattle.npp_bounds.specs.ZeroTolls.{zero_tolls}
 use Rattle.npp_bounds.proofs.ZeroCheapest.{pays_nothing}
@@ -41,23 +42,24 @@ are_priced arcs (k ∷ ks) (s ∷ ss) (w ∷ ws) are =
     All-cons (IsPriced arcs (zero_tolls arcs)) _ _ first (are_priced arcs ks ss ws are.1)
 are_priced arcs _ _ _ are = absurd are
 
-is_plain : (net : Network) (least : LeastCosts) (upper : ℕ) → AreLeast net least → IsUpperBound net (pos upper) 1
+is_plain : (net : Network) (least : LeastCosts) (upper : ℕ) → AreLeast net least → upper ≡ basic net.commodities least.spans.items → IsUpperBound net (pos upper) 1
     → IsReportOf net (record { optimal = 0 == upper; lower = 0; upper = upper; tolls = replicate (toll_count net.arcs) 0; paths = plain_paths least.spans.items least.walks.items })
-is_plain net least upper are bound =
+is_plain net least upper are basic_is bound =
     let walks = printed_walks net.arcs net.commodities least.spans.items least.walks.items are.are_walks in
     record {
       earned = rw walks are.earned;
       most = λ others outcome. rw (earns_nothing net.arcs net.commodities others) (omega arith);
+      basic = record { spans = least.spans.items; are_spans = are.are_spans; is_basic = basic_is };
       bounded = bound;
       optimal = search rules;
       priced = are_priced net.arcs net.commodities least.spans.items least.walks.items are.are_walks;
     }
 
 pub plain_is_report : (net : Network) (least : LeastCosts) (upper : ℕ) (tolls : List ℕ) (paths : List PrintedPath)
-    → AreLeast net least → IsUpperBound net (pos upper) 1
+    → AreLeast net least → upper ≡ basic net.commodities least.spans.items → IsUpperBound net (pos upper) 1
     → tolls ≡ replicate (toll_count net.arcs) 0 → paths ≡ plain_paths least.spans.items least.walks.items
     → IsReportOf net (record { optimal = 0 == upper; lower = 0; upper = upper; tolls = tolls; paths = paths })
-plain_is_report net least upper tolls paths are bound tolls_are paths_are =
+plain_is_report net least upper tolls paths are basic_is bound tolls_are paths_are =
     let OfTolls : List ℕ → Type 0 = λ t. IsReportOf net (record { optimal = 0 == upper; lower = 0; upper = upper; tolls = t; paths = paths }) in
     let OfPaths : List PrintedPath → Type 0 = λ p. IsReportOf net (record { optimal = 0 == upper; lower = 0; upper = upper; tolls = replicate (toll_count net.arcs) 0; paths = p }) in
-    subst OfTolls (sym tolls_are) (subst OfPaths (sym paths_are) (is_plain net least upper are bound))
+    subst OfTolls (sym tolls_are) (subst OfPaths (sym paths_are) (is_plain net least upper are basic_is bound))

@@ -1,5 +1,5 @@
 -- The generated instance of a number: a main road of toll arcs, a side road of toll-free arcs, and ramps between them.
-use Rattle.std.specs.Prelude.{ℕ, ◌+◌, ◌*◌, ◌%◌, List, [], ◌∷◌, ◌++◌, flat_map, map, true, false, codes}
+use Rattle.std.specs.Prelude.{ℕ, ◌+◌, ◌*◌, ◌%◌, List, [], ◌∷◌, ◌++◌, flat_map, map, true, false, None, codes}
 use Rattle.std.specs.List.{range_with_len}
 use Rattle.std.specs.Fmt.{decimal}
 use Rattle.npp_net.specs.declared.types.NodeId.{NodeId}
@@ -26,14 +26,16 @@ first_numbers n = range_with_len 0 n
 abbrev pub generated_names : List (List ℕ)
 generated_names = map (λ i. codes "m" ++ decimal i) (first_numbers 13) ++ map (λ i. codes "t" ++ decimal i) (first_numbers 13)
 
--- a toll arc along the main road
+-- a toll arc along the main road, without a ceiling
 abbrev pub main_arc : ℕ → ℕ → NetArc
-main_arc s i = record { tail = main_node i; head = main_node (i + 1); cost = 3 + spread s i 3; toll = true }
+main_arc s i = record { tail = main_node i; head = main_node (i + 1); cost = 3 + spread s i 3; toll = true; ceiling = None }
 
 -- toll-free arcs there and back
 abbrev pub both_ways : NodeId → NodeId → ℕ → List NetArc
 both_ways from to cost =
-    record { tail = from; head = to; cost = cost; toll = false } ∷ record { tail = to; head = from; cost = cost; toll = false } ∷ []
+    record { tail = from; head = to; cost = cost; toll = false; ceiling = None }
+    ∷ record { tail = to; head = from; cost = cost; toll = false; ceiling = None }
+    ∷ []
 
 -- the arcs along the side road
 abbrev pub side_arcs : ℕ → ℕ → List NetArc

@@ -1,19 +1,10 @@
 -- What `paths` prints.
-use Rattle.std.specs.Prelude.{ℕ, ◌==◌, List, ◌∷◌, ◌++◌, length, filter, flat_map, codes}
-use Rattle.std.specs.Int.{bit_at}
-use Rattle.std.specs.List.{range_with_len}
+use Rattle.std.specs.Prelude.{ℕ, List, ◌∷◌, ◌++◌, length, flat_map, codes}
 use Rattle.std.specs.Fmt.{decimal}
+use Rattle.npp_net.specs.TollSets.{tolls_of}
 use Rattle.npp_cover.specs.Paths.{PathValue}
 use Rattle.npp_cover.specs.Replaces.{CoverValue}
 use Rattle.npp_cli.specs.Printed.{line, arc_fields, numbered_lines}
-
--- the toll numbers below n of a set, rising
-unfoldable pub tolls_below : ℕ → ℕ → List ℕ
-tolls_below s n = filter (λ a. bit_at s a == 1) (range_with_len 0 n)
-
--- all toll numbers of a set, which are below 64
-abbrev pub tolls_of_set : ℕ → List ℕ
-tolls_of_set s = tolls_below s 64
 
 -- toll numbers, each after a space
 abbrev pub toll_fields : List ℕ → List ℕ
@@ -23,7 +14,7 @@ toll_fields tolls = flat_map (λ a. 32 ∷ decimal a) tolls
 abbrev pub useful_line : ℕ → ℕ → PathValue → List ℕ
 useful_line k q path =
     line (codes "useful " ++ decimal k ++ 32 ∷ decimal q ++ 32 ∷ decimal path.cost
-    ++ codes " tolls" ++ toll_fields (tolls_of_set path.tolls) ++ codes " arcs" ++ arc_fields path.arcs)
+    ++ codes " tolls" ++ toll_fields (tolls_of path.tolls) ++ codes " arcs" ++ arc_fields path.arcs)
 
 -- the lines of commodity k: how many useful paths it has, and each of them
 abbrev pub commodity_lines : ℕ → CoverValue → List ℕ

@@ -1,6 +1,8 @@
 -- Which job the words of the command line ask for.
-use Rattle.std.specs.Prelude.{◌≤◌, ⊤, ℕ, ◌+◌, ◌-◌, ◌*◌, ◌&&◌, Bool, List, [], ◌∷◌, length, map, fold, nat_eq, nat_le, Option, Some, None, if◌then◌else◌, string_bytes, String, codes}
+use Rattle.std.specs.Prelude.{◌≤◌, ⊤, ℕ, ◌&&◌, List, [], ◌∷◌, length, map, nat_eq, nat_le, Option, Some, None, if◌then◌else◌, string_bytes, String, codes}
+use Rattle.std.specs.Char.{is_ascii_digit}
 use Rattle.std.specs.List.{list_all, starts_with}
+use Rattle.std.specs.Str.Parse.{digits_value}
 use Rattle.std.specs.Option.{option_map}
 use Rattle.std.specs.Cmp.Lexicographic.{pointwise}
 use Rattle.std.specs.declared.alloc.Global.{Global}
@@ -28,19 +30,11 @@ IsWithinDigits (Generate number) = number ≤ 999999
 abbrev pub texts : List (String Global) → List (List ℕ)
 texts words = map string_bytes words
 
--- a decimal digit
-abbrev pub is_digit : ℕ → Bool
-is_digit b = nat_le 48 b && nat_le b 57
-
--- the value of decimal digits
-abbrev pub value_of_digits : List ℕ → ℕ
-value_of_digits digits = fold (λ n d. 10 * n + (d - 48)) 0 digits
-
 -- the number that one to six decimal digits stand for
 abbrev pub number_of : List ℕ → Option ℕ
 number_of text =
-    if nat_le 1 (length text) && nat_le (length text) 6 && list_all is_digit text
-    then Some (value_of_digits text) else None
+    if nat_le 1 (length text) && nat_le (length text) 6 && list_all is_ascii_digit text
+    then Some (digits_value 10 text) else None
 
 -- the job of this name for this word
 abbrev pub job_named : List ℕ → List ℕ → Option Job

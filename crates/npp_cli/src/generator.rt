@@ -78,6 +78,7 @@ fn main_arc(number: u32, i: u32) -> NetArc
         head: main_node(i + 1),
         cost: 3 + spread(number, i, 3),
         toll: true,
+        ceiling: None,
     }
 }
 
@@ -162,12 +163,14 @@ fn add_both_ways(arcs: &mut Vec<NetArc>, from: NodeId, to: NodeId, cost: u32) ->
         head: to,
         cost,
         toll: false,
+        ceiling: None,
     })?;
     arcs.push(NetArc {
         tail: to,
         head: from,
         cost,
         toll: false,
+        ceiling: None,
     })?;
     Ok(())
 }

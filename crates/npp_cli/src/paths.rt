@@ -1,14 +1,13 @@
 //! The job `paths`: the useful paths of each commodity.
-ghost use Rattle.std.specs.Prelude.{◌≡◌, ◌==◌, ◌<◌, ◌++◌, ◌∷◌, [], ◌⊎◌, ℕ, IfOk, OnOk, if◌then◌else◌, map, string_bytes};
-ghost use Rattle.std.specs.Int.{bit_at};
-ghost use Rattle.std.specs.Fmt.{decimal};
+ghost use Rattle.std.specs.Prelude.{◌≡◌, ◌++◌, ◌⊎◌, IfOk, OnOk, map, string_bytes};
+ghost use Rattle.npp_net.specs.TollSets.{tolls_of};
 ghost use Rattle.npp_bounds.specs.Spans.{AreSpans};
 ghost use Rattle.npp_cover.specs.PathValue.{path_value};
 ghost use Rattle.npp_cli.specs.Answer.{IsAnswer};
 ghost use Rattle.npp_cli.specs.Answers.{AnswersInstance};
 ghost use Rattle.npp_cli.specs.Listed.{IsListed, IsOverLimit};
 ghost use Rattle.npp_cli.specs.Printed.{numbered_lines};
-ghost use Rattle.npp_cli.specs.PathsText.{paths_text, commodity_lines, useful_line, toll_fields, tolls_of_set};
+ghost use Rattle.npp_cli.specs.PathsText.{paths_text, commodity_lines, useful_line, toll_fields};
 
 use crate::answers::{Answer, no_free_path, too_many_labels, too_many_paths};
 use crate::report::write_arcs;
@@ -16,7 +15,7 @@ use crate::words::FileJob;
 use npp_bounds::{BoundsRefusal, free_and_zero};
 use npp_cover::{Cover, UsefulPath};
 use npp_labels::{CoversRefusal, useful_all};
-use npp_net::{Instance, Memory, Span, TollId, TollSet};
+use npp_net::{Instance, Memory, Span, TollSet};
 use std::alloc::Global;
 use std::fmt::Write;
 
@@ -98,21 +97,10 @@ fn write_path(text: &mut String, k: usize, q: usize, path: &UsefulPath) -> Resul
 
 // The toll numbers of the set, each after a space.
 fn write_tolls(text: &mut String, tolls: TollSet) -> Result<(), Memory>
-    ensures { OnOk result (string_bytes text.new ≡ string_bytes text.old ++ toll_fields (tolls_of_set tolls)) }
+    ensures { OnOk result (string_bytes text.new ≡ string_bytes text.old ++ toll_fields (tolls_of tolls)) }
 {
-    for a in 0..64 {
-        write_toll(text, tolls, a)?;
-    }
-    Ok(())
-}
-
-// The toll number after a space, where it is in the set.
-fn write_toll(text: &mut String, tolls: TollSet, a: u32) -> Result<(), Memory>
-    requires { a < 64 }
-    ensures { OnOk result (string_bytes text.new ≡ string_bytes text.old ++ (if bit_at tolls a == 1 then 32 ∷ decimal a else [])) }
-{
-    if tolls.has(TollId(a)) {
-        write!(text, " {a}")?;
+    for toll in tolls.tolls() {
+        write!(text, " {}", toll.0)?;
     }
     Ok(())
 }

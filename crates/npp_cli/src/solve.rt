@@ -1,6 +1,8 @@
 //! The job `solve`: zero tolls with cheapest walks, which earn nothing, and the basic bound.
-ghost use Rattle.std.specs.Prelude.{◌≡◌, ℕ, IfOk, map, replicate, string_bytes};
+ghost use Rattle.std.specs.Prelude.{◌≡◌, ℕ, IfOk, pos, map, replicate, string_bytes};
 ghost use Rattle.std.specs.List.{zip};
+ghost use Rattle.npp_net.specs.Outcome.{IsUpperBound};
+ghost use Rattle.npp_bounds.specs.Spans.{basic};
 ghost use Rattle.npp_cli.specs.Answers.{AnswersInstance, IsSolved};
 ghost use Rattle.npp_cli.specs.Headline.{IsReportOf};
 ghost use Rattle.npp_cli.specs.Report.{printed};
@@ -29,18 +31,25 @@ fn solved(alloc: Global, instance: &Instance, least: LeastCosts) -> Result<Answe
     requires { AreLeast instance.now least }
     ensures { IfOk result (λ answer. IsSolved instance.now answer.status (string_bytes answer.text)) }
 {
-    let report = plain_report(alloc, instance, least)?;
+    let upper = basic_bound(instance, &least.spans);
+    let report = plain_report(alloc, instance, least, upper)?;
     let text = text_of(alloc, &report)?;
     let status = if report.lower == report.upper { 0 } else { 1 };
     Ok(Answer { status, text })
 }
 
-// The report of zero tolls with walks that are cheapest then.
-fn plain_report(alloc: Global, instance: &Instance, least: LeastCosts) -> Result<Report, Memory>
-    requires { AreLeast instance.now least }
+// The report of zero tolls with walks that are cheapest then, and of the basic bound as the upper value.
+fn plain_report(
+    alloc: Global,
+    instance: &Instance,
+    least: LeastCosts,
+    upper: u128,
+) -> Result<Report, Memory>
+    requires least { AreLeast instance.now least }
+    requires basic { upper ≡ basic instance.now.commodities least.spans.items }
+    requires bound { IsUpperBound instance.now (pos upper) 1 }
     ensures { IfOk result (λ report. IsReportOf instance.now (printed report)) }
 {
-    let upper = basic_bound(instance, &least.spans);
     let tolls = zeros(alloc, instance.tolls())?;
     let paths = plain_paths(alloc, least)?;
     Ok(Report {

@@ -258,6 +258,84 @@ fn over_the_limits(rt: HostRuntime) -> Result<(), Fail> {
     Ok(())
 }
 
+// A toll-free arc of cost 200, and beside it so many toll arcs of the costs from 0 on.
+fn side_by_side(alloc: Global, tolls: u32) -> Result<String, Fail> {
+    let mut text = String::from_str(alloc, "npp 1\nnode a\nnode b\nfree a b 200\n")?;
+    for cost in 0..tolls {
+        writeln!(text, "toll a b {cost}")?;
+    }
+    writeln!(text, "pair a b 1")?;
+    Ok(text)
+}
+
+#[test]
+fn as_many_toll_arcs_as_there_may_be(rt: HostRuntime) -> Result<(), Fail> {
+    let alloc = rt.alloc();
+    let mut useful = String::from_str(alloc, "commodity 0 129\n")?;
+    for toll in 0..128 {
+        let arc = toll + 1;
+        writeln!(useful, "useful 0 {toll} {toll} tolls {toll} arcs {arc}")?;
+    }
+    writeln!(useful, "useful 0 128 200 tolls arcs 0")?;
+    let most = side_by_side(alloc, 128)?;
+    let rows = [
+        ("bounds", "span 0 200 0\nbasic 200\n"),
+        ("paths", useful.as_str()),
+    ];
+    for (job, written) in rows {
+        expect(&rt, alloc, job, "file", most.as_bytes(), 0, written)?;
+    }
+    let over = side_by_side(alloc, 129)?;
+    let refusal = "refused instance line 133 TooManyTolls\n";
+    expect(&rt, alloc, "paths", "file", over.as_bytes(), 3, refusal)
+}
+
+// Two roads whose toll arc has this line, in the second format.
+fn with_toll_line(alloc: Global, line: &str) -> Result<String, Fail> {
+    let text = format!(in alloc; "npp 2\nnode a\nnode b\nfree a b 10\n{line}\npair a b 5\n")?;
+    Ok(text)
+}
+
+// Bounds and useful paths hold of all tolls, whatever the ceiling.
+#[test]
+fn ceilings(rt: HostRuntime) -> Result<(), Fail> {
+    let alloc = rt.alloc();
+    let report =
+        "npp-certificate 1\nstatus budget\nwidth 64\nlower 0\nupper 40\nopened 0\ntoll 0 0\npath 0 2 0 1\n";
+    let useful = "commodity 0 2\nuseful 0 0 2 tolls 0 arcs 1\nuseful 0 1 10 tolls arcs 0\n";
+    let rows = [
+        ("solve", "toll a b 2 3", 1, report),
+        ("solve", "toll a b 2 -", 1, report),
+        ("bounds", "toll a b 2 3", 0, "span 0 10 2\nbasic 40\n"),
+        ("paths", "toll a b 2 0", 0, useful),
+        (
+            "solve",
+            "toll a b 2",
+            3,
+            "refused instance line 5 FieldCount\n",
+        ),
+        (
+            "solve",
+            "toll a b 2 x",
+            3,
+            "refused instance line 5 BadNumber\n",
+        ),
+        (
+            "solve",
+            "toll a b 2 1000000001",
+            3,
+            "refused instance line 5 NumberTooLarge\n",
+        ),
+    ];
+    for (job, line, status, written) in rows {
+        let text = with_toll_line(alloc, line)?;
+        expect(&rt, alloc, job, "file", text.as_bytes(), status, written)?;
+    }
+    let other = "npp 3\nnode a\n";
+    let refusal = "refused instance line 1 Header\n";
+    expect(&rt, alloc, "solve", "file", other.as_bytes(), 3, refusal)
+}
+
 #[test]
 fn a_generated_instance(rt: HostRuntime) -> Result<(), Fail> {
     let alloc = rt.alloc();
@@ -298,7 +376,7 @@ fn slow_and_failing(rt: HostRuntime) -> Result<(), Fail> {
     let mut out = SureSink::new(alloc);
     let mut failing = Slow {
         text: TWO_ROADS,
-        most: 0,
+        most: 20,
         faults: 0,
     };
     assert_eq!(rt; run(alloc, &words, &mut failing, &mut out), 5);

@@ -1,5 +1,7 @@
 //! The words of the command line, and the job that they ask for.
 ghost use Rattle.std.specs.Prelude.{◌≡◌, ◌≤◌, ℕ, MatchOption, IfSome, None, Some};
+ghost use Rattle.std.specs.List.{list_all};
+ghost use Rattle.std.specs.Char.{is_ascii_digit};
 ghost use Rattle.npp_cli.specs.Words.{job_of, job_meant, number_of, texts, IsWithinDigits};
 
 /// What is asked of the instance in a file.
@@ -61,16 +63,14 @@ fn number_of(text: &str) -> Option<u32>
     ensures value { result ≡ number_of text.now }
     ensures within { IfSome result (λ number. number ≤ 999999) }
 {
-    let digits = text.as_bytes();
-    if digits.is_empty() || digits.len() > 6 {
+    if text.is_empty() || text.len() > 6 || !are_digits(text.as_bytes()) {
         return None;
     }
-    let mut number = 0;
-    for digit in digits {
-        if !digit.is_ascii_digit() {
-            return None;
-        }
-        number = 10 * number + u32::from(*digit - b'0');
-    }
-    Some(number)
+    text.parse::<u32>().ok()
+}
+
+fn are_digits(text: &[u8]) -> bool
+    ensures { result ≡ list_all is_ascii_digit text.now }
+{
+    text.iter().all(|b| b.is_ascii_digit())
 }

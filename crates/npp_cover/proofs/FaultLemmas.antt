@@ -19,15 +19,15 @@ use Rattle.npp_net.specs.Ends.{leaving_arcs}
 use Rattle.npp_net.specs.TollSets.{IsWithin}
 use Rattle.npp_net.proofs.EndLaws.{leaving_all}
 use Rattle.npp_net.proofs.TollSetLemmas.{within_test}
-use Rattle.npp_cover.proofs.TestLemmas.{both, equal_of_test, less_of_test, le_of_test, test_of_equal}
+use Rattle.npp_cover.proofs.TestLemmas.{both, equal_of_test, less_of_test, le_of_test, test_of_equal, test_of_less}
 use Rattle.npp_cover.specs.declared.label.Label.{Label}
 use Rattle.npp_cover.specs.declared.label.StepDraft.{StepDraft}
 use Rattle.npp_cover.specs.declared.fault.CoverFault.{CoverFault}
-use Rattle.npp_cover.specs.declared.fault.CoverFault.TheVariants.{NotAStep, RepeatedToll, Useless, NotClosed}
+use Rattle.npp_cover.specs.declared.fault.CoverFault.TheVariants.{NotAStep, RepeatedToll, Useless, MissingOrigin, NotClosed}
 use Rattle.npp_cover.specs.Useful.{CanWin}
-use Rattle.npp_cover.specs.Labels.{no_label, label_at, with_arc, start_label, step_label, labels_after, labels_of}
-use Rattle.npp_cover.specs.Fault.{is_below, can_win, is_step, has_arc, step_fault, steps_fault, start_fault, labels_fault, is_no_worse, is_dominated, is_open, open_arc, closure_fault, open_fault}
-use Rattle.npp_cover.specs.Closed.{GoesBy, IsStartOrGoes, IsWalkLabel, IsDominated, AreClosed}
+use Rattle.npp_cover.specs.Labels.{no_label, label_at, with_arc, start_label, step_label}
+use Rattle.npp_cover.specs.Fault.{is_below, can_win, is_step, has_arc, step_fault, start_fault, is_no_worse, is_dominated, is_open, open_arc, closure_fault, open_fault, is_no_label, origin_fault}
+use Rattle.npp_cover.specs.Closed.{GoesBy, IsStartOrGoes, IsWalkLabel, IsDominated, AreFaultless, AreClosed}
 use Rattle.npp_cover.proofs.ClosureLemmas.{head_within}
 use Rattle.npp_cover.proofs.ReplaceLemmas.{all_usable}
 
@@ -51,12 +51,6 @@ below_by arcs k free v cost (Some more) distance wins =
     let least = distance.least wins.0 (record { path = wins.1; usable = all_usable arcs wins.0 }) in
     let lt : cost + more < free = omega (arith, wins.2) in
     grind (arith, nat_tests)
-
--- what is known of labels without fault
-pub record AreFaultless (net : Network) (k : Commodity) (free : ℕ) (labels : List Label) : Type 0 where
-  pub each : (i : ℕ) → i < length labels → IsWalkLabel net.arcs k.origin labels i
-  pub wins : (i : ℕ) → i < length labels → CanWin net.arcs k free (label_at labels i).node.0 (label_at labels i).cost
-  pub nodes : (i : ℕ) → i < length labels → (label_at labels i).node.0 < net.nodes
 
 pub parent_by : (arcs : List NetArc) (origin : NodeId) (i n : ℕ) (l from : Label) (o : Option ArcId) → MatchOption o (l ≡ start_label origin) (GoesBy arcs i l from)
     → i < n → l.parent < n
@@ -124,7 +118,7 @@ not_both false b none e f = cc
 
 module _ (net : Network) (limits : IsNetwork net) (k : Commodity) (free : ℕ) (onward : ℕ → Option ℕ)
     (distances : (v : ℕ) → v < net.nodes → IsDistance net.arcs true v k.destination.0 (onward v)) where
-  faultless_step : (labels : List Label) (s : StepDraft) → AreFaultless net k free labels → step_fault net.arcs onward free labels s ≡ None
+  pub faultless_step : (labels : List Label) (s : StepDraft) → AreFaultless net k free labels → step_fault net.arcs onward free labels s ≡ None
       → AreFaultless net k free (labels ++ step_label net.arcs labels s ∷ [])
   faultless_step labels s good none =
       let l : Label = step_label net.arcs labels s in
@@ -147,30 +141,15 @@ module _ (net : Network) (limits : IsNetwork net) (k : Commodity) (free : ℕ) (
       })
       (wins_by net.arcs k free l.node.0 l.cost (onward l.node.0) (distances l.node.0 node) parts.2) node
 
-  faultless_steps : (steps : List StepDraft) (labels : List Label) → AreFaultless net k free labels → steps_fault net.arcs onward free labels steps ≡ None
-      → AreFaultless net k free (labels_after net.arcs labels steps)
-  faultless_steps [] labels good none = good
-  faultless_steps (s ∷ rest) labels good none =
-      let parts = neither (step_fault net.arcs onward free labels s) (steps_fault net.arcs onward free (labels ++ step_label net.arcs labels s ∷ []) rest) none in
-      faultless_steps rest (labels ++ step_label net.arcs labels s ∷ []) (faultless_step labels s good parts.0) parts.1
-
   start_wins : (b : Bool) → cond b None (Some (Useless 0)) ≡ None → b ≡ true
   start_wins true e = refl
   start_wins false e = cc
 
-  pub faultless_labels : (started : Bool) (steps : List StepDraft) → k.origin.0 < net.nodes → labels_fault net.arcs onward free k.origin started steps ≡ None
-      → AreFaultless net k free (labels_of net.arcs k.origin started steps)
-  faultless_labels true steps origin none =
-      let parts = neither (start_fault onward free k.origin) (steps_fault net.arcs onward free (start_label k.origin ∷ []) steps) none in
-      faultless_steps steps (start_label k.origin ∷ [])
-      (faultless_start net k free origin
-      (wins_by net.arcs k free k.origin.0 0 (onward k.origin.0) (distances k.origin.0 origin) (start_wins (can_win onward free k.origin.0 0) parts.0)))
-      parts.1
-  faultless_labels false steps origin none = record {
-    each = λ i lt. absurd (omega arith);
-    wins = λ i lt. absurd (omega arith);
-    nodes = λ i lt. absurd (omega arith);
-  }
+  -- a start without fault
+  pub faultless_first : k.origin.0 < net.nodes → start_fault onward free k.origin ≡ None → AreFaultless net k free (start_label k.origin ∷ [])
+  faultless_first origin none =
+      faultless_start net k free origin
+      (wins_by net.arcs k free k.origin.0 0 (onward k.origin.0) (distances k.origin.0 origin) (start_wins (can_win onward free k.origin.0 0) none))
 
 -- no label that is listed is open
 no_map : {X : Type 0} (f : X → CoverFault) (o : Option X) → option_map f o ≡ None → o ≡ None
@@ -220,47 +199,34 @@ dominated_of labels v s cost e =
       },
     )
 
-length_after : (arcs : List NetArc) (steps : List StepDraft) (labels : List Label) → length (labels_after arcs labels steps) ≡ length labels + length steps
-length_after arcs [] labels = omega arith
-length_after arcs (s ∷ rest) labels =
-    omega (arith, length_after arcs rest (labels ++ step_label arcs labels s ∷ []), length-append labels (step_label arcs labels s ∷ []))
+some_label : (labels : List Label) → is_no_label labels ≡ false → 0 < length labels
+some_label [] e = cc
+some_label (l ∷ labels) e = omega arith
 
-pub count_made : (arcs : List NetArc) (origin : NodeId) (started : Bool) (steps : List StepDraft)
-    → length (labels_of arcs origin started steps) ≤ cond started 1 0 + length steps
-count_made arcs origin true steps = omega (arith, length_after arcs steps (start_label origin ∷ []))
-count_made arcs origin false steps = omega arith
+no_start : (none wanted : Bool) → cond (none && wanted) (Some MissingOrigin) None ≡ None → wanted ≡ true → none ≡ false
+no_start true true e is = cc
+no_start true false e is = cc
+no_start false wanted e is = refl
 
-some_made : (arcs : List NetArc) (origin : NodeId) (started : Bool) (steps : List StepDraft) → started ≡ true → 0 < length (labels_of arcs origin started steps)
-some_made arcs origin true steps e = omega (arith, length_after arcs steps (start_label origin ∷ []))
-some_made arcs origin false steps e = cc
-
-wanted : (b : Bool) (P : Type 0) → (b ≡ false → ⊥) → b ≡ true
-wanted true P h = refl
-wanted false P h = absurd (h refl)
-
--- a draft without fault is closed
+-- labels without fault are closed where none is open and no start is missing
 pub closed_of : (net : Network) (limits : IsNetwork net) (k : Commodity) (span : Span) (onward : ℕ → Option ℕ)
     → ((v : ℕ) → v < net.nodes → IsDistance net.arcs true v k.destination.0 (onward v))
-    → (started : Bool) (steps : List StepDraft) (labels : List Label) → k.origin.0 < net.nodes → cond started 1 0 + length steps ≤ 65536
-    → labels_fault net.arcs onward span.free k.origin started steps ≡ None → labels ≡ labels_of net.arcs k.origin started steps
-    → (started ≡ false → span.zero < span.free → ⊥) → open_fault net.arcs onward span.free labels ≡ None
+    → (labels : List Label) → AreFaultless net k span.free labels → length labels ≤ 65536
+    → origin_fault span labels ≡ None → open_fault net.arcs onward span.free labels ≡ None
     → AreClosed net.arcs k span labels
-closed_of net limits k span onward distances started steps labels origin few none made has_start none_open =
-    let good : AreFaultless net k span.free labels = subst (λ (xs : List Label). AreFaultless net k span.free xs) (sym made) (faultless_labels net limits k span.free onward distances started steps origin none) in
-    record {
-      few = omega (arith, ap length made, count_made net.arcs k.origin started steps);
-      each = good.each;
-      wins = good.wins;
-      start = λ lt. subst (λ (xs : List Label). 0 < length xs) (sym made)
-          (some_made net.arcs k.origin started steps (wanted started ⊥ (λ no. has_start no lt)));
-      closed = λ i a in_range arc tail wins.
-          let l : Label = label_at labels i in
-          let x : NetArc = arc_at net.arcs a in
-          let at = leaving_all net.arcs l.node.0 a arc tail in
-          let not_open : is_open net.arcs onward span.free labels l a ≡ false =
-          ap (λ (b : ArcId). is_open net.arcs onward span.free labels l b) (sym at.2)
-          ∙ find_none (is_open net.arcs onward span.free labels l) (leaving_arcs net.arcs l.node.0) (no_open net.arcs onward span.free labels 0 labels none_open i in_range) at.0 a at.1 in
-          let below = below_by net.arcs k span.free x.head.0 (l.cost + x.cost) (onward x.head.0) (distances x.head.0 (head_within net a limits arc)) wins in
-          dominated_of labels x.head.0 (with_arc net.arcs l.tolls a) (l.cost + x.cost)
-          (found_of (can_win onward span.free x.head.0 (l.cost + x.cost)) (is_dominated labels x.head.0 (with_arc net.arcs l.tolls a) (l.cost + x.cost)) not_open below);
-    }
+closed_of net limits k span onward distances labels good few has_start none_open = record {
+  few = few;
+  each = good.each;
+  wins = good.wins;
+  start = λ lt. some_label labels (no_start (is_no_label labels) (nat_lt span.zero span.free) has_start (test_of_less span.zero span.free lt));
+  closed = λ i a in_range arc tail wins.
+      let l : Label = label_at labels i in
+      let x : NetArc = arc_at net.arcs a in
+      let at = leaving_all net.arcs l.node.0 a arc tail in
+      let not_open : is_open net.arcs onward span.free labels l a ≡ false =
+      ap (λ (b : ArcId). is_open net.arcs onward span.free labels l b) (sym at.2)
+      ∙ find_none (is_open net.arcs onward span.free labels l) (leaving_arcs net.arcs l.node.0) (no_open net.arcs onward span.free labels 0 labels none_open i in_range) at.0 a at.1 in
+      let below = below_by net.arcs k span.free x.head.0 (l.cost + x.cost) (onward x.head.0) (distances x.head.0 (head_within net a limits arc)) wins in
+      dominated_of labels x.head.0 (with_arc net.arcs l.tolls a) (l.cost + x.cost)
+      (found_of (can_win onward span.free x.head.0 (l.cost + x.cost)) (is_dominated labels x.head.0 (with_arc net.arcs l.tolls a) (l.cost + x.cost)) not_open below);
+}

@@ -1,8 +1,8 @@
 pub mod TestLemmas
 pub mod FreeLemmas
 pub mod SetLemmas
-pub mod IndexLemmas
-pub mod StepLemmas
+pub mod DominanceLemmas
+pub mod GrowthLaws
 pub mod ClosureLemmas
 pub mod PathLemmas
 pub mod RankLemmas
@@ -11,4 +11,12 @@ pub mod TreeLemmas
 pub mod ReplaceLemmas
 pub mod CoverLemmas
 pub mod FaultLemmas
+pub mod GrowingLemmas
+pub mod SimpleWalks
+pub mod OnwardLaws
+pub mod OrderLaws
+pub mod CoverLaws
+pub mod DraftLabels
+pub mod DraftLaws
 pub mod CapLemmas
+pub mod ChoiceLaws

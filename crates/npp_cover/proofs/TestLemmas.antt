@@ -27,3 +27,6 @@ test_of_other m n ne = grind (arith, nat_tests)
 
 pub test_of_le : (m n : ℕ) → m ≤ n → nat_le m n ≡ true
 test_of_le m n le = grind (arith, nat_tests)
+
+pub test_of_less : (m n : ℕ) → m < n → nat_lt m n ≡ true
+test_of_less m n lt = grind (arith, nat_tests)

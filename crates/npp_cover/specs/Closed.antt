@@ -5,7 +5,7 @@ use Rattle.npp_net.specs.declared.types.NetArc.{NetArc}
 use Rattle.npp_net.specs.declared.types.Commodity.{Commodity}
 use Rattle.npp_net.specs.declared.types.NodeId.{NodeId}
 use Rattle.npp_net.specs.declared.types.Span.{Span}
-use Rattle.npp_net.specs.Network.{arc_at, toll_number}
+use Rattle.npp_net.specs.Network.{Network, arc_at, toll_number}
 use Rattle.npp_net.specs.Walk.{walk_cost}
 use Rattle.npp_net.specs.Distance.{Leads}
 use Rattle.npp_net.specs.TollSets.{Has}
@@ -44,6 +44,12 @@ abbrev pub IsClosedAt : List NetArc → Commodity → ℕ → List Label → ℕ
 IsClosedAt arcs k free labels i a =
     CanWin arcs k free (arc_at arcs a).head.0 ((label_at labels i).cost + (arc_at arcs a).cost)
     → IsDominated labels (arc_at arcs a).head.0 (with_arc arcs (label_at labels i).tolls a) ((label_at labels i).cost + (arc_at arcs a).cost)
+
+-- each label is a walk to a node of the network that can still win
+pub record AreFaultless (net : Network) (k : Commodity) (free : ℕ) (labels : List Label) : Type 0 where
+  pub each : (i : ℕ) → i < length labels → IsWalkLabel net.arcs k.origin labels i
+  pub wins : (i : ℕ) → i < length labels → CanWin net.arcs k free (label_at labels i).node.0 (label_at labels i).cost
+  pub nodes : (i : ℕ) → i < length labels → (label_at labels i).node.0 < net.nodes
 
 -- the labels are walks that can still win, among them the start where a walk can win, and each extension is dominated
 pub record AreClosed (arcs : List NetArc) (k : Commodity) (span : Span) (labels : List Label) : Type 0 where

@@ -1,6 +1,6 @@
 -- The first fault of a draft. The least cost from a node on to the destination, at zero tolls, is given as `onward`:
 -- None where no walk leads there.
-use Rattle.std.specs.Prelude.{ℕ, ◌+◌, Bool, false, List, [], ◌∷◌, ◌++◌, length, Option, Some, None, option_map, if◌then◌else◌, ◌==◌, ◌&&◌, nat_lt, nat_le, not, find, bit_and}
+use Rattle.std.specs.Prelude.{◌≡◌, ◌⊎◌, ℕ, ◌+◌, Bool, true, false, List, [], ◌∷◌, ◌++◌, length, Option, Some, None, option_map, if◌then◌else◌, ◌==◌, ◌&&◌, nat_lt, nat_le, not, find, bit_and, Result, MatchResult}
 use Rattle.std.specs.Int.{bit_at}
 use Rattle.std.specs.List.{list_any}
 use Rattle.std.specs.Option.{option_or}
@@ -16,8 +16,8 @@ use Rattle.npp_cover.specs.declared.label.Label.{Label}
 use Rattle.npp_cover.specs.declared.label.StepDraft.{StepDraft}
 use Rattle.npp_cover.specs.declared.label.CoverDraft.{CoverDraft}
 use Rattle.npp_cover.specs.declared.fault.CoverFault.{CoverFault}
-use Rattle.npp_cover.specs.declared.fault.CoverFault.TheVariants.{TooManyLabels, NotAStep, RepeatedToll, Useless, BadFree, MissingOrigin, NotClosed}
-use Rattle.npp_cover.specs.Labels.{label_at, with_arc, start_label, step_label, labels_of}
+use Rattle.npp_cover.specs.declared.fault.CoverFault.TheVariants.{TooManyLabels, NotAStep, RepeatedToll, Useless, BadFree, MissingOrigin, NotClosed, Memory}
+use Rattle.npp_cover.specs.Labels.{label_at, with_arc, step_label, first_labels, labels_of}
 
 -- how many labels there are, the start included
 abbrev pub label_count : CoverDraft → ℕ
@@ -59,16 +59,15 @@ steps_fault arcs onward free labels (s ∷ rest) =
 abbrev pub start_fault : (ℕ → Option ℕ) → ℕ → NodeId → Option CoverFault
 start_fault onward free origin = if can_win onward free origin.0 0 then None else Some (Useless 0)
 
--- without a start there is to be no step
-abbrev pub no_start_fault : List StepDraft → Option CoverFault
-no_start_fault [] = None
-no_start_fault (s ∷ rest) = Some (NotAStep 0)
-
--- what is wrong with the first faulty label
+-- what is wrong with the first faulty label. Without a start each step is no step, since there is no label to go on from
 abbrev pub labels_fault : List NetArc → (ℕ → Option ℕ) → ℕ → NodeId → Bool → List StepDraft → Option CoverFault
 labels_fault arcs onward free origin started steps =
-    if started then option_or (start_fault onward free origin) (steps_fault arcs onward free (start_label origin ∷ []) steps)
-    else no_start_fault steps
+    option_or (if started then start_fault onward free origin else None) (steps_fault arcs onward free (first_labels origin started) steps)
+
+-- what is wrong with one more step: it makes too many labels, or is faulty
+abbrev pub next_fault : List NetArc → (ℕ → Option ℕ) → ℕ → List Label → StepDraft → Option CoverFault
+next_fault arcs onward free labels s =
+    if nat_lt (length labels) 65536 then step_fault arcs onward free labels s else Some TooManyLabels
 
 -- whether the arcs are a toll-free walk from u to v
 abbrev pub is_free_walk : List NetArc → ℕ → ℕ → List ArcId → Bool
@@ -81,9 +80,14 @@ abbrev pub free_fault : List NetArc → Commodity → ℕ → List ArcId → Opt
 free_fault arcs k free walk =
     if is_free_walk arcs k.origin.0 k.destination.0 walk && (walk_cost arcs walk == free) then None else Some BadFree
 
+-- whether there is no label
+abbrev pub is_no_label : List Label → Bool
+is_no_label [] = true
+is_no_label (l ∷ labels) = false
+
 -- a start is wanted where some walk costs less than the toll-free one
-abbrev pub origin_fault : Span → Bool → Option CoverFault
-origin_fault span started = if not started && nat_lt span.zero span.free then Some MissingOrigin else None
+abbrev pub origin_fault : Span → List Label → Option CoverFault
+origin_fault span labels = if is_no_label labels && nat_lt span.zero span.free then Some MissingOrigin else None
 
 -- whether the label has a set within this one, at a cost not above
 abbrev pub is_no_worse : Label → ℕ → ℕ → Bool
@@ -113,11 +117,19 @@ closure_fault arcs onward free labels n (l ∷ rest) =
 abbrev pub open_fault : List NetArc → (ℕ → Option ℕ) → ℕ → List Label → Option CoverFault
 open_fault arcs onward free labels = closure_fault arcs onward free labels 0 labels
 
+-- what is wrong once the labels stand: with the free walk, the start, or an extension that no label dominates
+abbrev pub closing_fault : List NetArc → (ℕ → Option ℕ) → Commodity → Span → List Label → List ArcId → Option CoverFault
+closing_fault arcs onward k span labels walk =
+    option_or (free_fault arcs k span.free walk)
+    (option_or (origin_fault span labels) (open_fault arcs onward span.free labels))
+
 -- the first fault of a draft, in the order in which the rules are judged
 abbrev pub cover_fault : List NetArc → (ℕ → Option ℕ) → Commodity → Span → CoverDraft → Option CoverFault
 cover_fault arcs onward k span d =
     if nat_lt 65536 (label_count d) then Some TooManyLabels
     else option_or (labels_fault arcs onward span.free k.origin d.started d.steps.items)
-    (option_or (free_fault arcs k span.free d.free.arcs.items)
-    (option_or (origin_fault span d.started)
-    (open_fault arcs onward span.free (labels_of arcs k.origin d.started d.steps.items))))
+    (closing_fault arcs onward k span (labels_of arcs k.origin d.started d.steps.items) d.free.arcs.items)
+
+-- an answer without fault, exactly where there is none; or the fault, or want of memory
+abbrev pub Answers : {X : Type 0} → Result X CoverFault → Option CoverFault → Type 0
+Answers r fault = MatchResult r (λ _. fault ≡ None) (λ e. (e ≡ Memory) ⊎ (fault ≡ Some e))

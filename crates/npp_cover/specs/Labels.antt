@@ -43,9 +43,13 @@ abbrev pub labels_after : List NetArc → List Label → List StepDraft → List
 labels_after arcs labels [] = labels
 labels_after arcs labels (s ∷ rest) = labels_after arcs (labels ++ step_label arcs labels s ∷ []) rest
 
--- the labels of a draft: none without a start
+-- the labels before the steps: the start, or none
+abbrev pub first_labels : NodeId → Bool → List Label
+first_labels origin started = if started then start_label origin ∷ [] else []
+
+-- the labels of a draft
 abbrev pub labels_of : List NetArc → NodeId → Bool → List StepDraft → List Label
-labels_of arcs origin started steps = if started then labels_after arcs (start_label origin ∷ []) steps else []
+labels_of arcs origin started steps = labels_after arcs (first_labels origin started) steps
 
 -- the label, with the greatest number of 64 bits in the place of a greater cost
 pub record IsCapped (l capped : Label) : Type 0 where

@@ -1,9 +1,12 @@
 pub mod Useful
 pub mod Labels
 pub mod Fault
-pub mod Index
+pub mod Dominance
+pub mod Growing
 pub mod Paths
 pub mod PathValue
 pub mod Closed
 pub mod Replaces
+pub mod Drafts
+pub mod Choices
 pub mod Caps

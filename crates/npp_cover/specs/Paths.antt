@@ -49,10 +49,10 @@ Precedes p q =
 abbrev pub no_rank : Rank
 no_rank = record { cost = 0; size = 0; set = 0; label = 0 }
 
--- the ranks of all labels at v, of which none stands right after one that it precedes
+-- the ranks of all labels at v, each of which precedes the next
 pub record AreInOrder (labels : List Label) (v : ℕ) (ranks : List Rank) : Type 0 where
   pub all : IsPermutation (ranks_at labels v (length labels)) ranks
-  pub rising : (n : ℕ) → n + 1 < length ranks → Precedes (slice_index_or ranks (n + 1) no_rank) (slice_index_or ranks n no_rank) → ⊥
+  pub rising : (n : ℕ) → n + 1 < length ranks → Precedes (slice_index_or ranks n no_rank) (slice_index_or ranks (n + 1) no_rank)
 
 -- the path of the label of a rank
 abbrev pub path_of : List Label → Rank → PathValue

@@ -1,29 +1,22 @@
 //! The check of a cover draft.
 
-ghost use Rattle.std.specs.Prelude.{◌≡◌, ◌⊎◌, ◌<◌, length, MatchResult, IfOk, None, Some, true, ◌+◌, if◌then◌else◌};
+ghost use Rattle.std.specs.Prelude.{◌≡◌, ◌<◌, length, IfOk, true, ◌+◌, if◌then◌else◌};
 ghost use Rattle.npp_net.specs.Distance.{IsSpan};
 ghost use Rattle.npp_short.specs.Reach.{cost_at};
 ghost use Rattle.npp_short.specs.Potentials.{AreDistances};
-ghost use Rattle.npp_cover.specs.declared.fault.CoverFault.{CoverFault};
 ghost use Rattle.npp_cover.specs.Useful.{commodity_at};
 ghost use Rattle.npp_cover.specs.Labels.{labels_of};
-ghost use Rattle.npp_cover.specs.Fault.{cover_fault};
+ghost use Rattle.npp_cover.specs.Fault.{cover_fault, Answers};
 ghost use Rattle.npp_cover.specs.Paths.{ArePathsOf};
 ghost use Rattle.npp_cover.specs.Replaces.{IsCoverOf};
 
-use crate::closed::judge_closure;
-use crate::commodity::commodity_at;
 use crate::cover::Cover;
 use crate::fault::CoverFault;
-use crate::free::is_free_walk;
+use crate::growing::{GrowingDraft, MAX_LABELS};
 use crate::label::{CoverDraft, StepDraft};
-use crate::steps::judge_labels;
 use npp_net::{Instance, Span};
 use npp_short::Potentials;
 use std::alloc::Global;
-
-/// The most labels of a cover, the start included.
-const MAX_LABELS: usize = 65_536;
 
 /// The cover of a draft for commodity `k`, or its first fault.
 ///
@@ -42,14 +35,11 @@ pub fn check_cover(
     requires k { k < length instance.now.commodities }
     requires span { IsSpan instance.now.arcs (commodity_at instance.now k) span }
     requires potentials { AreDistances instance.now.arcs true instance.now.nodes (commodity_at instance.now k).destination.0 potentials.now }
-    ensures fault { MatchResult result
-        (λ _. cover_fault instance.now.arcs (cost_at potentials.now) (commodity_at instance.now k) span draft ≡ None)
-        (λ e. (e ≡ CoverFault.Memory) ⊎ (cover_fault instance.now.arcs (cost_at potentials.now) (commodity_at instance.now k) span draft ≡ Some e)) }
+    ensures fault { Answers result (cover_fault instance.now.arcs (cost_at potentials.now) (commodity_at instance.now k) span draft) }
     ensures labels { IfOk result (λ c. c.labels ≡ labels_of instance.now.arcs (commodity_at instance.now k).origin draft.started draft.steps.items) }
     ensures paths { IfOk result (λ c. ArePathsOf c.labels (commodity_at instance.now k).destination.0 span.free draft.free.arcs.items c.paths) }
     ensures cover { IfOk result (IsCoverOf instance.now.arcs (commodity_at instance.now k) span) }
 {
-    let commodity = commodity_at(instance, k);
     let CoverDraft {
         started,
         steps,
@@ -58,24 +48,14 @@ pub fn check_cover(
     if count_labels(started, &steps) > MAX_LABELS {
         return Err(CoverFault::TooManyLabels);
     }
-    let origin = commodity.origin;
-    let labels = judge_labels(
-        alloc, instance, potentials, span.free, origin, started, &steps,
-    )?;
-    if !is_free_walk(
-        instance,
-        origin,
-        commodity.destination,
-        span.free,
-        &free.arcs,
-    ) {
-        return Err(CoverFault::BadFree);
+    let mut growing = GrowingDraft::new(alloc, k, span);
+    if started {
+        growing.start(instance, potentials)?;
     }
-    if !started && span.zero < span.free {
-        return Err(CoverFault::MissingOrigin);
+    for step in &steps {
+        growing.step(instance, potentials, *step)?;
     }
-    judge_closure(alloc, instance, potentials, span.free, &labels)?;
-    Ok(Cover::of_labels(alloc, instance, k, span, labels, free)?)
+    growing.close(alloc, instance, potentials, free)
 }
 
 /// How many labels there are, the start included.

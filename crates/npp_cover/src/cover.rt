@@ -8,8 +8,9 @@ use npp_net::{Instance, Memory, Span, Walk};
 use std::alloc::Global;
 use std::marker::Model;
 
-/// The labels and the useful paths of a commodity. Whatever the tolls are, for each walk that is cheapest under them
-/// there is a path among these that is cheapest too and pays the same toll.
+/// The labels and the useful paths of a commodity. For each walk there is a path among these that costs no more and uses
+/// each toll no more often; and whatever the tolls are, for each walk that is cheapest under them there is one that is
+/// cheapest too and pays the same toll.
 #[derive(Drop)]
 pub struct Cover {
     labels: Vec<Label>,

@@ -4,7 +4,7 @@ use npp_net::{ArcId, Memory};
 use std::alloc::{AllocError, AllocFailed};
 
 /// Why a draft is no cover, in the order in which the rules are judged.
-#[derive(Debug, PartialEq, Eq, Drop)]
+#[derive(Clone, Copy, Debug, PartialEq, Eq)]
 pub enum CoverFault {
     /// There are over 65,536 labels, the start included.
     TooManyLabels,

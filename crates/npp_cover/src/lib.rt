@@ -1,15 +1,17 @@
-//! Covers: finite lists of labels and paths that stand for all walks of a commodity. A closed cover has, for each walk
-//! that is cheapest under some tolls, a path that is cheapest too and pays the same.
+//! Covers: finite lists of labels and paths that stand for all walks of a commodity. A closed cover has, for each walk, a
+//! path that costs no more and uses each toll no more often; and for each walk that is cheapest under some tolls, a path
+//! that is cheapest too and pays the same.
 #![tactic(auto)]
 
 mod check;
 mod closed;
 mod commodity;
 mod cover;
+mod dominance;
 mod extend;
 mod fault;
 mod free;
-mod index;
+mod growing;
 mod label;
 mod path;
 mod paths;
@@ -19,9 +21,10 @@ mod steps;
 mod tests;
 
 pub use check::check_cover;
-pub use closed::is_dominated;
 pub use cover::Cover;
+pub use dominance::DominanceTable;
 pub use extend::{can_win, label_after};
 pub use fault::CoverFault;
+pub use growing::GrowingDraft;
 pub use label::{CoverDraft, Label, StepDraft};
 pub use path::UsefulPath;

@@ -12,6 +12,7 @@ use npp_net::{NodeId, TollSet, Walk};
 use std::alloc::{AllocError, Global};
 
 /// The ranks of the labels at the node, each before those that it precedes.
+#[tactic(auto, using(crate::proofs::RankLemmas::in_order))]
 pub(crate) fn ranks_of(
     alloc: Global,
     labels: &[Label],

@@ -9,7 +9,7 @@ pub struct Rank {
     /// How many tolls the label has.
     pub size: u32,
     /// The number of its set of tolls.
-    pub set: u64,
+    pub set: u128,
     /// The number of the label.
     pub label: u32,
 }

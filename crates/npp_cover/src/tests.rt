@@ -3,7 +3,7 @@
 ghost use Rattle.std.specs.Prelude.{◌<◌, IfOk, IfSome};
 ghost use Rattle.npp_net.specs.Distance.{IsSpan};
 
-use crate::{Cover, CoverDraft, CoverFault, StepDraft, check_cover};
+use crate::{Cover, CoverDraft, CoverFault, GrowingDraft, StepDraft, check_cover};
 use npp_net::{
     ArcId, Commodity, Instance, Memory, NetArc, NetRefusal, NodeId, Span, TollId, TollSet, Walk,
 };
@@ -17,6 +17,7 @@ fn arc(tail: u32, head: u32, cost: u32, toll: bool) -> NetArc {
         head: NodeId(head),
         cost,
         toll,
+        ceiling: None,
     }
 }
 
@@ -162,6 +163,45 @@ fn labels_are_counted_first(rt: HostRuntime) -> Result<(), Fail> {
         fault(alloc, &net, false, &steps),
         Some(CoverFault::NotAStep(0))
     );
+    Ok(())
+}
+
+/// Each fault is answered at once, and leaves the draft as it was.
+#[test]
+fn a_draft_grows_label_by_label(rt: HostRuntime) -> Result<(), Fail> {
+    let alloc = rt.alloc();
+    let net = detour(alloc)?;
+    let pair = net.commodities()[0];
+    let potentials = distances_to(alloc, &net, pair.destination, true)?;
+    let Some(span) = span_of(alloc, &net, pair)? else {
+        return Err(Fail::from("no toll-free walk"));
+    };
+    let mut draft = GrowingDraft::new(alloc, 0, span);
+    let step = |parent: u32, arc: u32| StepDraft {
+        parent,
+        arc: ArcId(arc),
+    };
+    assert_eq!(rt;
+        draft.step(&net, &potentials, step(0, 1)),
+        Err(CoverFault::NotAStep(0))
+    );
+    draft.start(&net, &potentials)?;
+    assert_eq!(rt;
+        draft.step(&net, &potentials, step(0, 0)),
+        Err(CoverFault::Useless(1))
+    );
+    draft.step(&net, &potentials, step(0, 1))?;
+    assert_eq!(rt;
+        draft.step(&net, &potentials, step(2, 2)),
+        Err(CoverFault::NotAStep(2))
+    );
+    draft.step(&net, &potentials, step(1, 2))?;
+    let free = Walk {
+        arcs: vec![in alloc; ArcId(0)]?,
+    };
+    let cover = draft.close(alloc, &net, &potentials, free)?;
+    assert_eq!(rt; cover.labels().len(), 3);
+    assert_eq!(rt; cover.paths().len(), 2);
     Ok(())
 }
 

@@ -1,5 +1,4 @@
 pub mod OrderLemmas
-pub mod FamilyLemmas
 pub mod SizeLemmas
 pub mod StepLemmas
 pub mod ChainLemmas
@@ -14,3 +13,4 @@ pub mod CoverLemmas
 pub mod CountLemmas
 pub mod PathCountLemmas
 pub mod LimitLemmas
+pub mod UsefulLaws

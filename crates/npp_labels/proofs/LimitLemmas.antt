@@ -30,8 +30,8 @@ paths_at_most arcs k c d is is' =
     subst (λ (f : ℕ). AreTheUseful arcs k f c.labels) (one_least arcs k is.span is'.span is.is_span is'.is_span) is.labels in
     omega (
       arith,
-      paths_counted c.labels k.destination.0 is.span.free is.paths.0 c.paths is.paths.2,
-      paths_counted d.labels k.destination.0 is'.span.free is'.paths.0 d.paths is'.paths.2,
+      paths_counted c.labels k.destination.0 is.span.free is.cover.made.0 c.paths is.cover.made.2,
+      paths_counted d.labels k.destination.0 is'.span.free is'.cover.made.0 d.paths is'.cover.made.2,
       count_at_most arcs k is'.span.free k.destination.0 d.labels c.labels is'.labels same.useful,
     )
 

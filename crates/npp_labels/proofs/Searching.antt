@@ -1,9 +1,8 @@
 -- What is known while labels are taken: each of them is useful, and each extension is dominated or waits.
-use Rattle.std.proofs.Common.{◌≡◌, inl, inr, ℕ, ◌+◌, ◌<◌, ◌≤◌, Bool, true, false, cond, List, [], ◌∷◌, length, Option, Some, None, MatchOption, refl, sym, ◌∙◌, ap, subst, arith, nat_eq, nat_lt, nat_le, ◌&&◌, bit_and, bit_or, ◌^◌, Contains}
+use Rattle.std.proofs.Common.{◌≡◌, inl, inr, ℕ, ◌+◌, ◌<◌, ◌≤◌, Bool, true, false, cond, List, [], ◌∷◌, length, Option, Some, None, MatchOption, sym, ◌∙◌, ap, subst, arith, nat_lt, bit_or, ◌^◌, Contains}
 use Rattle.std.proofs.lemmas.Bool.{cases_eq, false≢true}
 use Rattle.std.proofs.lemmas.Bool.Decides.{nat_tests}
 use Rattle.std.proofs.lemmas.Nat.Bits.{bit_at-lt}
-use Rattle.std.proofs.lemmas.List.Folds.{list_any_at}
 use Rattle.std.specs.Int.{bit_at}
 use Rattle.npp_net.specs.declared.types.ArcId.{ArcId}
 use Rattle.npp_net.specs.declared.types.NodeId.{NodeId}
@@ -13,18 +12,16 @@ use Rattle.npp_net.specs.Network.{Network, IsNetwork, arc_at, no_arc, toll_numbe
 use Rattle.npp_net.specs.Walk.{IsWalk, walk_tolls}
 use Rattle.npp_net.specs.Distance.{IsLeast, IsDistance}
 use Rattle.npp_net.specs.TollSets.{Has}
-use Rattle.npp_net.proofs.TollSetLemmas.{within_test}
 use Rattle.npp_cover.specs.declared.label.Label.{Label}
-use Rattle.npp_cover.specs.Labels.{no_label, label_at, with_arc, start_label}
-use Rattle.npp_cover.specs.Useful.{IsPairAt, Dominates}
-use Rattle.npp_cover.specs.Fault.{is_no_worse, is_dominated}
-use Rattle.npp_cover.specs.Closed.{GoesBy, IsDominated}
+use Rattle.npp_cover.specs.Labels.{label_at, with_arc, start_label}
+use Rattle.npp_cover.specs.Useful.{IsPairAt}
+use Rattle.npp_cover.specs.Fault.{is_dominated}
+use Rattle.npp_cover.specs.Closed.{GoesBy, IsDominated, AreFaultless}
 use Rattle.npp_cover.specs.Paths.{walk_of}
-use Rattle.npp_cover.proofs.TestLemmas.{test_of_equal, test_of_le}
 use Rattle.npp_cover.proofs.SetLemmas.{with_same, with_other}
+use Rattle.npp_cover.proofs.ClosureLemmas.{test_of_dominated}
 use Rattle.npp_cover.proofs.TreeLemmas.{label_walk}
 use Rattle.npp_cover.proofs.ReplaceLemmas.{all_usable}
-use Rattle.npp_cover.proofs.FaultLemmas.{AreFaultless}
 use Rattle.npp_labels.specs.declared.pending.Pending.{Pending}
 use Rattle.npp_labels.specs.Useful.{AreUseful}
 use Rattle.npp_labels.specs.Search.{IsPending, arc_of}
@@ -38,18 +35,8 @@ pub record IsSearching (net : Network) (k : Commodity) (free : ℕ) (onward : �
   pub valid : (q : Pending) → Contains pending q → IsPending net.arcs onward free labels q
   pub frontier : IsFrontier net.arcs k free labels pending
 
--- a label that dominates is found by the test
-test_passes : (l : Label) (v s c : ℕ) → l.node.0 ≡ v → Dominates l.tolls l.cost s c → (nat_eq l.node.0 v && (nat_le l.cost c && nat_eq (bit_and l.tolls s) l.tolls)) ≡ true
-test_passes l v s c node up =
-    let one : nat_eq l.node.0 v ≡ true = test_of_equal l.node.0 v node in
-    let two : nat_le l.cost c ≡ true = test_of_le l.cost c up.cheaper in
-    let three : nat_eq (bit_and l.tolls s) l.tolls ≡ true = (within_test l.tolls s l.tolls s refl refl).1 up.within in
-    rw (one, two, three)
-
 pub not_dominated : (labels : List Label) (v s c : ℕ) → is_dominated labels v s c ≡ false → IsDominated labels v s c → ⊥
-not_dominated labels v s c none found =
-    false≢true (sym none ∙ list_any_at (λ l. nat_eq l.node.0 v && is_no_worse l s c) labels found.0 no_label found.1.in_range
-    (test_passes (label_at labels found.0) v s c found.1.there found.1.dominates))
+not_dominated labels v s c none found = false≢true (sym none ∙ test_of_dominated labels v s c found)
 
 used_once : (bit uses : ℕ) → bit < 2 → uses ≡ bit → ((bit ≡ 1) → 1 ≤ uses) × ((1 ≤ uses) → bit ≡ 1)
 used_once bit uses lt e = ((λ one. omega arith), (λ le. omega arith))

@@ -12,8 +12,12 @@ use Rattle.npp_cover.proofs.CoverLemmas.{ranks_of_labels}
 abbrev pub IsSimple : List NetArc → ℕ → PathValue → Type 0
 IsSimple arcs u p = RepeatsNoNode arcs u p.arcs
 
+-- so are the walks of some labels
+abbrev pub AllSimple : List NetArc → ℕ → List Label → Type 0
+AllSimple arcs u labels = (i : ℕ) → i < length labels → RepeatsNoNode arcs u (walk_of labels i)
+
 pub simple_paths : (arcs : List NetArc) (u : ℕ) (labels : List Label) (v free : ℕ) (walk : List ArcId) (paths : List PathValue) → ArePathsOf labels v free walk paths
-    → ((i : ℕ) → i < length labels → RepeatsNoNode arcs u (walk_of labels i)) → RepeatsNoNode arcs u walk → All (IsSimple arcs u) paths
+    → AllSimple arcs u labels → RepeatsNoNode arcs u walk → All (IsSimple arcs u) paths
 simple_paths arcs u labels v free walk paths made each last =
     let ranks : List Rank = made.0 in
     let of_labels : All (IsRankOf labels) ranks = ranks_of_labels labels v ranks made.1 in

@@ -2,7 +2,6 @@
 use Rattle.std.proofs.Common.{◌≡◌, inl, inr, ℕ, ◌+◌, ◌<◌, ◌≤◌, Bool, true, cond, List, [], ◌∷◌, Option, Some, None, refl, sym, ◌∙◌, ap, subst, arith}
 use Rattle.std.proofs.lemmas.Nat.Bits.{bit_at-zero}
 use Rattle.std.specs.Int.{bit_at}
-use Rattle.std.specs.Option.{option_or}
 use Rattle.npp_cover.specs.declared.fault.CoverFault.TheVariants.{Useless}
 use Rattle.npp_net.specs.declared.types.Commodity.{Commodity}
 use Rattle.npp_net.specs.Network.{Network, IsNetwork, IsCommodity, arc_at}
@@ -13,7 +12,7 @@ use Rattle.npp_cover.specs.Labels.{label_at, start_label}
 use Rattle.npp_cover.specs.Useful.{CanWin, IsUsefulLabel}
 use Rattle.npp_cover.specs.Fault.{can_win}
 use Rattle.npp_cover.proofs.ClosureLemmas.{head_within}
-use Rattle.npp_cover.proofs.FaultLemmas.{faultless_labels, wins_by, below_by}
+use Rattle.npp_cover.proofs.FaultLemmas.{faultless_first, wins_by, below_by}
 use Rattle.npp_labels.specs.declared.pending.Pending.{Pending}
 use Rattle.npp_labels.specs.Search.{AddsExtensions, Waits}
 use Rattle.npp_labels.proofs.SizeLemmas.{size_le, size_same}
@@ -42,7 +41,7 @@ module _ (net : Network) (limits : IsNetwork net) (k : Commodity) (ends : IsComm
       let start : List Label = start_label k.origin ∷ [] in
       let wins = wins_by net.arcs k free k.origin.0 0 (onward k.origin.0) (distances k.origin.0 ends.origin) can_start in
       record {
-        good = faultless_labels net limits k free onward distances true [] ends.origin (ap (λ (b : Bool). option_or (cond b None (Some (Useless 0))) None) can_start);
+        good = faultless_first net limits k free onward distances ends.origin (ap (λ (b : Bool). cond b None (Some (Useless 0))) can_start);
         some = omega arith;
         few = omega arith;
         useful = record {

@@ -11,9 +11,9 @@ use Rattle.npp_cover.specs.declared.label.Label.{Label}
 use Rattle.npp_cover.specs.Labels.{label_at}
 use Rattle.npp_cover.specs.Useful.{CanWin, IsPairAt, Dominates, IsUsefulLabel}
 use Rattle.npp_cover.specs.Fault.{is_below}
-use Rattle.npp_cover.specs.Closed.{GoesBy, IsDominated}
+use Rattle.npp_cover.specs.Closed.{GoesBy, IsDominated, AreFaultless}
 use Rattle.npp_cover.proofs.ClosureLemmas.{head_within}
-use Rattle.npp_cover.proofs.FaultLemmas.{AreFaultless, faultless_more, by_place, before, at_end, wins_by}
+use Rattle.npp_cover.proofs.FaultLemmas.{faultless_more, by_place, before, at_end, wins_by}
 use Rattle.npp_labels.specs.declared.pending.Pending.{Pending}
 use Rattle.npp_labels.specs.Order.{IsNoLater}
 use Rattle.npp_labels.specs.Useful.{IsAs, AreUseful}

@@ -1,31 +1,34 @@
 -- The useful covers of an instance, and the limits that they keep.
 use Rattle.std.specs.Prelude.{◌≡◌, ℕ, ◌+◌, ◌<◌, ◌≤◌, List, [], ◌∷◌, length, take, slice_index_or, All}
+use Rattle.std.specs.List.{AllZip}
 use Rattle.npp_net.specs.declared.types.NetArc.{NetArc}
 use Rattle.npp_net.specs.declared.types.Commodity.{Commodity}
 use Rattle.npp_net.specs.declared.types.Span.{Span}
 use Rattle.npp_net.specs.Network.{no_commodity}
 use Rattle.npp_net.specs.Walk.{RepeatsNoNode}
 use Rattle.npp_net.specs.Distance.{IsSpan}
+use Rattle.npp_cover.specs.Paths.{walk_of}
 use Rattle.npp_cover.specs.Replaces.{CoverValue, IsCoverOf}
 use Rattle.npp_labels.specs.declared.covers.CoversRefusal.{CoversRefusal}
 use Rattle.npp_labels.specs.declared.covers.CoversRefusal.TheVariants.{TooManyLabels, TooManyPaths, Memory}
-use Rattle.npp_labels.specs.Useful.{AreTheUseful, AreUsefulPaths, HasTooMany}
+use Rattle.npp_labels.specs.Useful.{AreTheUseful, HasTooMany}
 
--- the useful cover of a commodity: its labels are exactly the useful ones, each once, and no walk of its paths comes to a node twice
+-- no walk of a label or of a path comes to a node twice
+pub record AreSimple (arcs : List NetArc) (origin : ℕ) (c : CoverValue) : Type 0 where
+  pub labels : (i : ℕ) → i < length c.labels → RepeatsNoNode arcs origin (walk_of c.labels i)
+  pub paths : All (λ p. RepeatsNoNode arcs origin p.arcs) c.paths
+
+-- the useful cover of a commodity: its labels are exactly the useful ones, each once, and none of its walks comes to a node twice
 pub record IsUsefulCover (arcs : List NetArc) (k : Commodity) (c : CoverValue) : Type 0 where
   pub span : Span
   pub is_span : IsSpan arcs k span
   pub labels : AreTheUseful arcs k span.free c.labels
-  pub paths : AreUsefulPaths arcs k span.free c
   pub cover : IsCoverOf arcs k span c
-  pub simple : All (λ p. RepeatsNoNode arcs k.origin.0 p.arcs) c.paths
+  pub simple : AreSimple arcs k.origin.0 c
 
 -- one useful cover for each commodity, in order
 abbrev pub AreUsefulCovers : List NetArc → List Commodity → List CoverValue → Type 0
-AreUsefulCovers arcs [] [] = Unit {0}
-AreUsefulCovers arcs [] (c ∷ cs) = ⊥
-AreUsefulCovers arcs (k ∷ ks) [] = ⊥
-AreUsefulCovers arcs (k ∷ ks) (c ∷ cs) = IsUsefulCover arcs k c × AreUsefulCovers arcs ks cs
+AreUsefulCovers arcs ks covers = AllZip (IsUsefulCover arcs) ks covers
 
 -- how many paths they have together
 abbrev pub path_total : List CoverValue → ℕ

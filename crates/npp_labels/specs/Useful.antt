@@ -1,14 +1,10 @@
--- The useful labels of a commodity as a list, and its useful paths.
+-- The useful labels of a commodity as a list.
 use Rattle.std.specs.Prelude.{◌≡◌, ℕ, ◌<◌, List, length}
-use Rattle.npp_net.specs.declared.types.ArcId.{ArcId}
 use Rattle.npp_net.specs.declared.types.NetArc.{NetArc}
 use Rattle.npp_net.specs.declared.types.Commodity.{Commodity}
 use Rattle.npp_cover.specs.declared.label.Label.{Label}
 use Rattle.npp_cover.specs.Labels.{label_at}
 use Rattle.npp_cover.specs.Useful.{IsUsefulLabel}
-use Rattle.npp_cover.specs.Closed.{IsFreeWalk}
-use Rattle.npp_cover.specs.Paths.{ArePathsOf}
-use Rattle.npp_cover.specs.Replaces.{CoverValue}
 
 -- a label with this node, this set and this cost
 pub record IsAs (l : Label) (v s c : ℕ) : Type 0 where
@@ -32,8 +28,3 @@ pub record AreTheUseful (arcs : List NetArc) (k : Commodity) (free : ℕ) (label
 -- there are over 65,536 useful labels
 abbrev pub HasTooMany : List NetArc → Commodity → ℕ → Type 0
 HasTooMany arcs k free = (labels : List Label) × (65536 < length labels) × AreUseful arcs k free labels
-
--- the paths are those of the labels at the destination in order, and last a toll-free walk of least cost
-abbrev pub AreUsefulPaths : List NetArc → Commodity → ℕ → CoverValue → Type 0
-AreUsefulPaths arcs k free c =
-    (walk : List ArcId) × IsFreeWalk arcs k free walk × ArePathsOf c.labels k.destination.0 free walk c.paths

@@ -21,7 +21,7 @@ use std::alloc::Global;
 /// The most useful labels of a commodity.
 const MAX_LABELS: usize = 65_536;
 
-/// The useful labels of a commodity in the order in which the search takes them.
+/// The useful labels of a commodity.
 ///
 /// A label is taken where no label that was taken before dominates it. Since those that could dominate it come before it
 /// in the order of the queue, it is useful.

@@ -1,15 +1,15 @@
 //! The useful labels of a commodity, as a cover.
 
-ghost use Rattle.std.specs.Prelude.{◌≡◌, ◌⊎◌, ◌<◌, length, All, IfOk, IfErr, true, false};
+ghost use Rattle.std.specs.Prelude.{◌≡◌, ◌⊎◌, ◌<◌, length, IfOk, IfErr, true, false};
 ghost use Rattle.npp_net.specs.Network.{IsNetwork, IsCommodity};
-ghost use Rattle.npp_net.specs.Walk.{RepeatsNoNode};
 ghost use Rattle.npp_net.specs.Distance.{IsSpan, HasNoFreePath};
 ghost use Rattle.npp_short.specs.Potentials.{AreDistances};
 ghost use Rattle.npp_short.specs.Shortest.{IsShortestWalk};
 ghost use Rattle.npp_cover.specs.Useful.{commodity_at};
 ghost use Rattle.npp_cover.specs.Replaces.{IsCoverOf};
 ghost use Rattle.npp_labels.specs.declared.refusal.LabelRefusal.{LabelRefusal};
-ghost use Rattle.npp_labels.specs.Useful.{AreTheUseful, AreUsefulPaths, HasTooMany};
+ghost use Rattle.npp_labels.specs.Useful.{AreTheUseful, HasTooMany};
+ghost use Rattle.npp_labels.specs.Covers.{AreSimple};
 
 use crate::best_first::search;
 use crate::refusal::LabelRefusal;
@@ -20,9 +20,9 @@ use std::alloc::Global;
 
 /// The cover of commodity `k` whose labels are exactly its useful labels, each once.
 ///
-/// The span is that of the commodity, and the potentials are those to its destination with tolls. The labels are numbered
-/// in the order in which a best-first search takes them: by cost and least cost onward, then by the number of tolls, then
-/// by cost, node and the number of the set of tolls.
+/// The span is that of the commodity, and the potentials are those to its destination with tolls. No walk of a label or of
+/// a path comes to a node twice. The first label is the start, and each other one comes after the one that it goes on from;
+/// of their order nothing else is promised.
 pub fn useful(
     alloc: Global,
     instance: &Instance,
@@ -35,9 +35,8 @@ pub fn useful(
     requires potentials { AreDistances instance.now.arcs true instance.now.nodes (commodity_at instance.now k).destination.0 potentials.now }
     ensures labels { IfOk result (λ c. AreTheUseful instance.now.arcs (commodity_at instance.now k) span.free c.labels) }
     ensures few { IfOk result (λ _. HasTooMany instance.now.arcs (commodity_at instance.now k) span.free → ⊥) }
-    ensures paths { IfOk result (λ c. AreUsefulPaths instance.now.arcs (commodity_at instance.now k) span.free c) }
     ensures cover { IfOk result (IsCoverOf instance.now.arcs (commodity_at instance.now k) span) }
-    ensures simple { IfOk result (λ c. All (λ p. RepeatsNoNode instance.now.arcs (commodity_at instance.now k).origin.0 p.arcs) c.paths) }
+    ensures simple { IfOk result (AreSimple instance.now.arcs (commodity_at instance.now k).origin.0) }
     ensures refused { IfErr result (λ e. (e ≡ LabelRefusal.Memory)
         ⊎ ((e ≡ LabelRefusal.TooManyLabels) × HasTooMany instance.now.arcs (commodity_at instance.now k) span.free)) }
 {

@@ -1,32 +1,30 @@
-//! The labels that were taken, as plain lists.
+//! The labels that were taken.
 
-ghost use Rattle.std.specs.Prelude.{◌≡◌, ◌<◌, ◌++◌, [], ◌∷◌, length, IfOk, OnOk};
+ghost use Rattle.std.specs.Prelude.{◌≡◌, ◌<◌, ◌++◌, [], ◌∷◌, length, IfOk};
 ghost use Rattle.npp_cover.specs.Labels.{label_at};
 ghost use Rattle.npp_cover.specs.Fault.{is_dominated};
-ghost use Rattle.npp_labels.specs.Lists.{PutsLabel};
 
-use npp_cover::{Label, is_dominated};
+use npp_cover::{DominanceTable, Label};
 use npp_net::Memory;
-use std::alloc::{AllocError, Global};
+use std::alloc::Global;
 use std::marker::Model;
 
-/// Labels in the order in which they were taken, and those of each node in a list of its own.
+/// Labels in the order in which they were taken, asked whether one of them dominates.
 #[derive(Drop)]
 pub struct Family {
     labels: Vec<Label>,
-    by_node: Vec<Vec<Label>>,
+    table: DominanceTable,
 }
 
 impl Model for Family {
-    ghost use Rattle.std.specs.Prelude.{length};
-    ghost use Rattle.npp_cover.specs.Index.{AreByNode};
+    ghost use Rattle.npp_cover.specs.Dominance.{nodes_of, AnswersFor};
     ghost use Rattle.npp_labels.specs.Lists.{Lists};
 
     ghost Value = { Lists };
 
-    ghost view = { λ f. record { nodes = length f.by_node.items; labels = f.labels.items } };
+    ghost view = { λ f. record { nodes = nodes_of f.table; labels = f.labels.items } };
 
-    ghost invariant = { λ f. AreByNode f.labels.items (length f.by_node.items) f.by_node.items };
+    ghost invariant = { λ f. AnswersFor f.labels.items f.table };
 }
 
 impl Family {
@@ -34,13 +32,9 @@ impl Family {
     pub fn new(alloc: Global, nodes: u32) -> Result<Family, Memory>
         ensures { IfOk result (λ f. f ≡ record { nodes = nodes; labels = [] }) }
     {
-        let mut by_node = Vec::new(alloc);
-        while by_node.len() < nodes as usize {
-            by_node.push(Vec::new(alloc))?;
-        }
         Ok(Family {
             labels: Vec::new(alloc),
-            by_node,
+            table: DominanceTable::new(alloc, nodes)?,
         })
     }
 
@@ -64,11 +58,7 @@ impl Family {
         requires { label.now.node.0 < self.now.nodes }
         ensures { result ≡ is_dominated self.now.labels label.now.node.0 label.now.tolls label.now.cost }
     {
-        is_dominated(
-            &self.by_node[label.node.0 as usize],
-            label.tolls,
-            label.cost,
-        )
+        self.table.dominates(label.node, label.tolls, label.cost)
     }
 
     /// These labels and one more.
@@ -76,29 +66,19 @@ impl Family {
         requires { label.node.0 < self.nodes }
         ensures { IfOk result (λ f. f ≡ record { nodes = self.nodes; labels = self.labels ++ label ∷ [] }) }
     {
-        let Family {
-            mut labels,
-            mut by_node,
-        } = self;
-        put(&mut by_node, &label)?;
+        let Family { mut labels, table } = self;
         labels.push(label)?;
-        Ok(Family { labels, by_node })
+        Ok(Family {
+            labels,
+            table: table.with(label)?,
+        })
     }
 
     /// The labels, in order.
     pub fn into_labels(self) -> Vec<Label>
         ensures { result.items ≡ self.labels }
     {
-        let Family { labels, by_node: _ } = self;
+        let Family { labels, table: _ } = self;
         labels
     }
-}
-
-/// Puts the label into the list of its node.
-fn put(by_node: &mut Vec<Vec<Label>>, label: &Label) -> Result<(), AllocError>
-    requires { label.now.node.0 < length by_node.old.items }
-    ensures { OnOk result (PutsLabel label.now by_node.old.items by_node.new.items) }
-{
-    by_node[label.node.0 as usize].push(*label)?;
-    Ok(())
 }

@@ -13,7 +13,7 @@ pub struct Pending {
     /// The number of its node.
     pub node: u32,
     /// The number of its set of tolls.
-    pub set: u64,
+    pub set: u128,
     /// The number of the label that it extends.
     pub parent: u32,
     /// The number of the arc by which it does.

@@ -4,10 +4,10 @@ ghost use Rattle.std.specs.Prelude.{◌<◌};
 
 use crate::{CoversRefusal, LabelRefusal, useful, useful_all};
 use npp_bounds::free_and_zero;
-use npp_cover::{Cover, Label};
-use npp_net::{ArcId, Commodity, Instance, NetArc, NetRefusal, NodeId};
+use npp_cover::{Cover, CoverDraft, CoverFault, StepDraft, check_cover};
+use npp_net::{ArcId, Commodity, Instance, NetArc, NetRefusal, NodeId, Walk};
 use npp_short::distances_to;
-use std::alloc::Global;
+use std::alloc::{AllocError, Global};
 use std::test::Fail;
 
 fn arc(tail: u32, head: u32, cost: u32, toll: bool) -> NetArc {
@@ -16,6 +16,7 @@ fn arc(tail: u32, head: u32, cost: u32, toll: bool) -> NetArc {
         head: NodeId(head),
         cost,
         toll,
+        ceiling: None,
     }
 }
 
@@ -69,7 +70,7 @@ fn first(alloc: Global, instance: &Instance) -> Result<Cover, LabelRefusal> {
 }
 
 /// Whether the paths are these, in order, each by the number of its set, its cost and its arcs.
-fn has_paths(cover: &Cover, rows: &[(u64, u64, &[ArcId])]) -> bool {
+fn has_paths(cover: &Cover, rows: &[(u128, u64, &[ArcId])]) -> bool {
     let paths = cover.paths();
     if paths.len() != rows.len() {
         return false;
@@ -160,5 +161,65 @@ fn chains_pass_the_limits(rt: HostRuntime) -> Result<(), Fail> {
     assert!(rt; matches!(&covers(alloc, &net), Err(CoversRefusal::TooManyLabels(1))));
     let net = chain(alloc, 16, &[0])?;
     assert!(rt; matches!(&covers(alloc, &net), Err(CoversRefusal::TooManyLabels(0))));
+    Ok(())
+}
+
+/// The draft of a cover.
+fn draft_of(alloc: Global, cover: &Cover) -> Result<CoverDraft, AllocError> {
+    let labels = cover.labels();
+    let mut steps = Vec::new(alloc);
+    for label in labels {
+        if let Some(arc) = label.last {
+            steps.push(StepDraft {
+                parent: label.parent,
+                arc,
+            })?;
+        }
+    }
+    let mut arcs = Vec::new(alloc);
+    if let Some(last) = cover.paths().last() {
+        arcs.extend_from_slice(&last.walk.arcs)?;
+    }
+    Ok(CoverDraft {
+        started: !labels.is_empty(),
+        steps,
+        free: Walk { arcs },
+    })
+}
+
+/// The cover that is checked from a draft for the first commodity.
+fn checked(alloc: Global, instance: &Instance, draft: CoverDraft) -> Result<Cover, CoverFault> {
+    let potentials = distances_to(alloc, instance, instance.commodities()[0].destination, true)?;
+    match free_and_zero(alloc, instance) {
+        Ok(spans) => check_cover(alloc, instance, 0, spans[0], &potentials, draft),
+        Err(_) => Err(CoverFault::Memory),
+    }
+}
+
+#[test]
+fn the_draft_of_a_useful_cover_gives_it_again(rt: HostRuntime) -> Result<(), Fail> {
+    let alloc = rt.alloc();
+    let net = chain(alloc, 6, &[0])?;
+    let cover = first(alloc, &net)?;
+    let again = checked(alloc, &net, draft_of(alloc, &cover)?)?;
+    assert_eq!(rt; again.labels().len(), 126);
+    assert_eq!(rt; again.labels(), cover.labels());
+    assert_eq!(rt; again.paths(), cover.paths());
+    Ok(())
+}
+
+/// The last of 128 parallel toll arcs alone gains something.
+#[test]
+fn the_last_of_many_tolls_is_listed(rt: HostRuntime) -> Result<(), Fail> {
+    let alloc = rt.alloc();
+    let mut arcs = Vec::new(alloc);
+    arcs.push(arc(0, 1, 10, false))?;
+    for _ in 0..127 {
+        arcs.push(arc(0, 1, 10, true))?;
+    }
+    arcs.push(arc(0, 1, 3, true))?;
+    let cover = first(alloc, &network(alloc, 2, &arcs, &[0])?)?;
+    let last = 170_141_183_460_469_231_731_687_303_715_884_105_728;
+    assert!(rt; has_paths(&cover, &[(last, 3, &[ArcId(128)]), (0, 10, &[ArcId(0)])]));
     Ok(())
 }

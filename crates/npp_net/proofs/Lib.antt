@@ -2,4 +2,6 @@ pub mod IndexLemmas
 pub mod EndLemmas
 pub mod LimitLemmas
 pub mod TollSetLemmas
+pub mod TollSetLaws
+pub mod TollRange
 pub mod EndLaws

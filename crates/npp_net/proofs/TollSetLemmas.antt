@@ -1,9 +1,17 @@
--- A set is within another where their common bits are its own.
-use Rattle.std.proofs.Common.{◌≡◌, ℕ, ◌<◌, min, sym, ◌∙◌, ap, subst, arith, bit_and, IsTrue, nat_eq, eq-eqb}
+-- A set with one toll more, and that a set is within another where their common bits are its own.
+use Rattle.std.proofs.Common.{◌≡◌, ◌≢◌, ℕ, ◌*◌, ◌%◌, ◌^◌, ◌<◌, bit_or, min, sym, ◌∙◌, ap, subst, arith, bit_and, IsTrue, nat_eq, eq-eqb}
 use Rattle.std.proofs.lemmas.Bool.Decides.{nat_tests}
-use Rattle.std.proofs.lemmas.Nat.Bits.{bit_at_and, bit_at-lt, same_from_bits}
-use Rattle.std.specs.Int.{bit_at}
-use Rattle.npp_net.specs.TollSets.{Has, IsWithin}
+use Rattle.std.proofs.lemmas.Nat.Bits.{bit_at_and, bit_at-lt, bit_at_set_same, bit_at_set_other, same_from_bits}
+use Rattle.std.specs.Int.{bit_at, w128}
+use Rattle.npp_net.specs.TollSets.{IsWithin}
+
+-- the toll that is put in is there
+pub bit_put : (s k : ℕ) → k < 128 → bit_at (bit_or s (1 * 2 ^ k % 2 ^ 128)) k ≡ 1
+bit_put s k lt = bit_at_set_same w128 s k lt
+
+-- and the others stay as they were
+pub bits_kept : (s k i : ℕ) → k < 128 → i ≢ k → bit_at (bit_or s (1 * 2 ^ k % 2 ^ 128)) i ≡ bit_at s i
+bits_kept s k i lt other = bit_at_set_other w128 s k lt i other
 
 bits_min : (x y : ℕ) → x < 2 → y < 2 → (x ≡ 1 → y ≡ 1) → min x y ≡ x
 bits_min x y hx hy h = grind arith

@@ -5,7 +5,7 @@ use Rattle.npp_net.specs.declared.types.ArcId.{ArcId}
 use Rattle.npp_net.specs.declared.types.NetArc.{NetArc}
 use Rattle.npp_net.specs.declared.types.Commodity.{Commodity}
 use Rattle.npp_net.specs.Network.{Network}
-use Rattle.npp_net.specs.Toll.{TollVector, IsTollVector, IsCheapest, toll_paid}
+use Rattle.npp_net.specs.Toll.{TollVector, IsTollVector, KeepsCeilings, IsCheapest, toll_paid}
 
 -- one cheapest walk for each commodity, in order
 abbrev pub AreCheapest : List NetArc → TollVector → List Commodity → List (List ArcId) → Type 0
@@ -14,9 +14,10 @@ AreCheapest arcs t [] (w ∷ ws) = ⊥
 AreCheapest arcs t (k ∷ ks) [] = ⊥
 AreCheapest arcs t (k ∷ ks) (w ∷ ws) = IsCheapest arcs t k.origin.0 k.destination.0 w × AreCheapest arcs t ks ws
 
--- tolls, with a cheapest walk for each commodity under them
+-- tolls that keep the ceilings, with a cheapest walk for each commodity under them
 pub record IsOutcome (net : Network) (t : TollVector) (walks : List (List ArcId)) : Type 0 where
   pub vector : IsTollVector net.arcs t
+  pub ceilings : KeepsCeilings net.arcs t
   pub cheapest : AreCheapest net.arcs t net.commodities walks
 
 -- the sum of demand times toll paid, over the denominator of the tolls

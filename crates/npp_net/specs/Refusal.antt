@@ -1,10 +1,10 @@
 -- Which refusal an instance meets first.
-use Rattle.std.specs.Prelude.{ℕ, Option, Some, None, List, [], ◌∷◌, length, nat_lt, nat_le, ◌==◌, ◌||◌, if◌then◌else◌}
+use Rattle.std.specs.Prelude.{ℕ, Bool, false, not, ◌&&◌, is_some, Option, Some, None, List, [], ◌∷◌, length, nat_lt, nat_le, ◌==◌, ◌||◌, if◌then◌else◌}
 use Rattle.npp_net.specs.declared.types.NetArc.{NetArc}
 use Rattle.npp_net.specs.declared.types.Commodity.{Commodity}
 use Rattle.npp_net.specs.Network.{Network, toll_count}
 use Rattle.npp_net.specs.declared.refusal.NetRefusal.{NetRefusal}
-use Rattle.npp_net.specs.declared.refusal.NetRefusal.TheVariants.{TooManyNodes, TooManyArcs, TooManyTolls, TooManyCommodities, UnknownNode, NumberTooLarge, SameEnds, ZeroDemand, NoCommodity}
+use Rattle.npp_net.specs.declared.refusal.NetRefusal.TheVariants.{TooManyNodes, TooManyArcs, TooManyTolls, TooManyCommodities, UnknownNode, NumberTooLarge, SameEnds, ZeroDemand, NoCommodity, CeilingOnFree}
 
 -- the first that some test gives
 abbrev pub or_else : Option NetRefusal → Option NetRefusal → Option NetRefusal
@@ -20,15 +20,20 @@ abbrev pub refusal_of_counts : Network → Option NetRefusal
 refusal_of_counts net =
     if nat_lt 1000 net.nodes then Some TooManyNodes
     else (if nat_lt 5000 (length net.arcs) then Some TooManyArcs
-    else (if nat_lt 64 (toll_count net.arcs) then Some TooManyTolls
+    else (if nat_lt 128 (toll_count net.arcs) then Some TooManyTolls
     else (if nat_lt 100 (length net.commodities) then Some TooManyCommodities
     else None)))
+
+abbrev pub is_ceiling_too_large : Option ℕ → Bool
+is_ceiling_too_large None = false
+is_ceiling_too_large (Some u) = nat_lt 1000000000 u
 
 abbrev pub refusal_of_arc : ℕ → NetArc → Option NetRefusal
 refusal_of_arc nodes x =
     if nat_le nodes x.tail.0 || nat_le nodes x.head.0 then Some UnknownNode
-    else (if nat_lt 1000000 x.cost then Some NumberTooLarge
-    else None)
+    else (if nat_lt 1000000 x.cost || is_ceiling_too_large x.ceiling then Some NumberTooLarge
+    else (if not x.toll && is_some x.ceiling then Some CeilingOnFree
+    else None))
 
 abbrev pub refusal_of_commodity : ℕ → Commodity → Option NetRefusal
 refusal_of_commodity nodes k =

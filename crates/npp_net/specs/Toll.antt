@@ -1,8 +1,8 @@
 -- Tolls, and which walks are cheapest under them.
-use Rattle.std.specs.Prelude.{◌≡◌, ℕ, ◌+◌, ◌*◌, ◌≤◌, List, length, sum_by, slice_index, if◌then◌else◌}
+use Rattle.std.specs.Prelude.{◌≡◌, ℕ, ◌+◌, ◌*◌, ◌<◌, ◌≤◌, List, length, sum_by, slice_index, Some, if◌then◌else◌}
 use Rattle.npp_net.specs.declared.types.ArcId.{ArcId}
 use Rattle.npp_net.specs.declared.types.NetArc.{NetArc}
-use Rattle.npp_net.specs.Network.{arc_at, toll_number, toll_count}
+use Rattle.npp_net.specs.Network.{arc_at, toll_number, toll_count, ceiling_of}
 use Rattle.npp_net.specs.Walk.{IsWalk, walk_cost}
 
 -- the toll of toll arc a is numerators[a] / denominator
@@ -14,6 +14,10 @@ pub record TollVector : Type 0 where
 pub record IsTollVector (arcs : List NetArc) (t : TollVector) : Type 0 where
   pub positive : 1 ≤ t.denominator
   pub count : length t.numerators ≡ toll_count arcs
+
+-- no toll is above its ceiling
+abbrev pub KeepsCeilings : List NetArc → TollVector → Type 0
+KeepsCeilings arcs t = (a u : ℕ) → a < toll_count arcs → ceiling_of arcs a ≡ Some u → slice_index t.numerators a ≤ u * t.denominator
 
 -- what one use of an arc pays, over the denominator
 abbrev pub toll_at : List NetArc → TollVector → ArcId → ℕ

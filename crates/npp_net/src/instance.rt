@@ -1,7 +1,7 @@
 //! An instance: a network whose limits hold, with an index of its arcs.
 
 ghost use Rattle.std.specs.Prelude.{◌≡◌, ◌⊎◌, ◌<◌, ◌≤◌, ℕ, length, IfOk, MatchResult, Some, None, slice_index, true};
-ghost use Rattle.npp_net.specs.Network.{Network, IsNetwork, arc_at, toll_count, toll_number};
+ghost use Rattle.npp_net.specs.Network.{Network, IsNetwork, arc_at, toll_count, toll_number, ceiling_of};
 ghost use Rattle.npp_net.specs.Ends.{leaving_arcs, entering_arcs};
 ghost use Rattle.npp_net.specs.Index.{toll_of};
 ghost use Rattle.npp_net.specs.Refusal.{refusal_of};
@@ -14,8 +14,8 @@ use crate::types::{ArcId, Commodity, NetArc, NodeId, TollId};
 use std::alloc::Global;
 use std::marker::Model;
 
-/// A network with its commodities, within the limits: at most 1,000 nodes, 5,000 arcs, 64 toll arcs and 100
-/// commodities, of which there is at least one; costs and demands at most 1,000,000.
+/// A network with its commodities, within the limits: at most 1,000 nodes, 5,000 arcs, 128 toll arcs and 100
+/// commodities, of which there is at least one; costs and demands at most 1,000,000, and ceilings at most 1,000,000,000.
 #[derive(Drop)]
 pub struct Instance {
     nodes: u32,
@@ -50,8 +50,9 @@ impl Instance {
     /// The instance of these nodes, arcs and commodities, or the first limit that is broken.
     ///
     /// The counts are judged first, in the order of nodes, arcs, toll arcs and commodities; then each arc in order,
-    /// by its ends and then its cost; then each commodity in order, by its ends, its demand's greatest value, the
-    /// difference of its ends and its demand's least value; last that there is a commodity.
+    /// by its ends, then its cost and its ceiling, and then that a toll-free arc has no ceiling; then each commodity in
+    /// order, by its ends, its demand's greatest value, the difference of its ends and its demand's least value; last
+    /// that there is a commodity.
     pub fn new(
         alloc: Global,
         nodes: u32,
@@ -130,6 +131,16 @@ impl Instance {
         ensures number { toll_number self.now.arcs result ≡ toll.0 }
     {
         self.toll_arcs[toll.0 as usize]
+    }
+
+    /// The ceiling of a toll, or None exactly where its arc has none.
+    #[tactic(auto, using(crate::proofs::IndexLemmas::ceiling_at))]
+    pub fn ceiling(&self, toll: TollId) -> Option<u32>
+        requires { toll.0 < toll_count self.now.arcs }
+        ensures { result ≡ ceiling_of self.now.arcs toll.0 }
+    {
+        let arc = self.arc_of(toll);
+        self.arcs()[arc.0 as usize].ceiling
     }
 
     /// The arcs that begin at a node, in the order of their numbers.

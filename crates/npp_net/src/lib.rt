@@ -6,18 +6,22 @@ mod ends;
 mod index;
 mod instance;
 mod limits;
+mod listed;
 mod lists;
 mod refusal;
 #[cfg(test)]
 mod tests;
 mod toll_set;
+mod tolls;
 mod types;
 mod walk;
 
 pub use instance::Instance;
-pub use limits::{MAX_ARCS, MAX_COMMODITIES, MAX_NODES, MAX_NUMBER, MAX_TOLLS};
+pub use limits::{MAX_ARCS, MAX_CEILING, MAX_COMMODITIES, MAX_NODES, MAX_NUMBER, MAX_TOLLS};
+pub use listed::Listed;
 pub use lists::empty_lists;
 pub use refusal::NetRefusal;
-pub use toll_set::TollSet;
-pub use types::{ArcId, Commodity, Memory, NetArc, NodeId, Span, TollId, Tolls, Walk};
+pub use toll_set::{TollSet, TollsOfSet};
+pub use tolls::Tolls;
+pub use types::{ArcId, Commodity, Memory, NetArc, NodeId, Span, TollId, Walk};
 pub use walk::{is_walk, walk_cost, walk_tolls};

@@ -2,7 +2,7 @@
 
 ghost use Rattle.std.specs.Prelude.{◌≡◌, ℕ, IfNone};
 ghost use Rattle.npp_net.specs.Network.{Network, IsNetwork};
-ghost use Rattle.npp_net.specs.Refusal.{refusal_of, refusal_of_counts, refusal_of_arc, refusal_of_commodity, first_of_list};
+ghost use Rattle.npp_net.specs.Refusal.{refusal_of, refusal_of_counts, refusal_of_arc, refusal_of_commodity, first_of_list, is_ceiling_too_large};
 
 use crate::refusal::NetRefusal;
 use crate::types::{Commodity, NetArc};
@@ -14,13 +14,16 @@ pub const MAX_NODES: u32 = 1000;
 pub const MAX_ARCS: usize = 5000;
 
 /// The most toll arcs of an instance.
-pub const MAX_TOLLS: usize = 64;
+pub const MAX_TOLLS: usize = 128;
 
 /// The most commodities of an instance.
 pub const MAX_COMMODITIES: usize = 100;
 
 /// The greatest cost and the greatest demand.
 pub const MAX_NUMBER: u32 = 1_000_000;
+
+/// The greatest ceiling.
+pub const MAX_CEILING: u32 = 1_000_000_000;
 
 /// The first refusal of all, if there is one.
 pub fn refused(nodes: u32, arcs: &[NetArc], commodities: &[Commodity]) -> Option<NetRefusal>
@@ -70,10 +73,22 @@ fn refused_one_arc(nodes: u32, x: NetArc) -> Option<NetRefusal>
     if x.tail.0 >= nodes || x.head.0 >= nodes {
         return Some(NetRefusal::UnknownNode);
     }
-    if x.cost > MAX_NUMBER {
+    if x.cost > MAX_NUMBER || is_ceiling_too_large(x.ceiling) {
         return Some(NetRefusal::NumberTooLarge);
     }
+    if !x.toll && x.ceiling.is_some() {
+        return Some(NetRefusal::CeilingOnFree);
+    }
     None
+}
+
+fn is_ceiling_too_large(ceiling: Option<u32>) -> bool
+    ensures { result ≡ is_ceiling_too_large ceiling }
+{
+    match ceiling {
+        None => false,
+        Some(u) => u > MAX_CEILING,
+    }
 }
 
 fn refused_one_commodity(nodes: u32, k: Commodity) -> Option<NetRefusal>

@@ -12,7 +12,7 @@ pub enum NetRefusal {
     /// There are over 5,000 arcs.
     #[error("too many arcs")]
     TooManyArcs,
-    /// There are over 64 toll arcs.
+    /// There are over 128 toll arcs.
     #[error("too many toll arcs")]
     TooManyTolls,
     /// There are over 100 commodities.
@@ -21,7 +21,7 @@ pub enum NetRefusal {
     /// An end of an arc or of a commodity is no node.
     #[error("an unknown node")]
     UnknownNode,
-    /// A cost or a demand is over 1,000,000.
+    /// A cost or a demand is over 1,000,000, or a ceiling over 1,000,000,000.
     #[error("a number that is too large")]
     NumberTooLarge,
     /// A commodity ends where it begins.
@@ -36,6 +36,9 @@ pub enum NetRefusal {
     /// Memory was wanting.
     #[error("no memory")]
     Memory,
+    /// A toll-free arc has a ceiling.
+    #[error("a ceiling on a toll-free arc")]
+    CeilingOnFree,
 }
 
 impl From<AllocError> for NetRefusal {

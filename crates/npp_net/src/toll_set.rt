@@ -3,9 +3,9 @@
 use crate::types::TollId;
 use std::marker::Model;
 
-/// A set of toll numbers below 64.
+/// A set of toll numbers below 128.
 #[derive(Clone, Copy, Debug, PartialEq, Eq)]
-pub struct TollSet(u64);
+pub struct TollSet(u128);
 
 impl Model for TollSet {
     ghost use Rattle.std.specs.Prelude.{ℕ};
@@ -20,7 +20,7 @@ impl Model for TollSet {
 impl TollSet {
     ghost use Rattle.std.specs.Prelude.{◌≡◌, ◌≢◌, ◌↔◌, ◌<◌, ℕ, IsTrue};
     ghost use Rattle.std.specs.Int.{bit_at};
-    ghost use Rattle.npp_net.specs.TollSets.{Has, IsWithin, size_of};
+    ghost use Rattle.npp_net.specs.TollSets.{Has, IsWithin, size_of, tolls_of};
 
     /// The set of no toll.
     pub fn empty() -> TollSet
@@ -31,8 +31,9 @@ impl TollSet {
     }
 
     /// This set and one more toll, which may be in it already.
+    #[tactic(auto, using(crate::proofs::TollSetLemmas::bit_put, crate::proofs::TollSetLemmas::bits_kept))]
     pub fn with(self, toll: TollId) -> TollSet
-        requires { toll.0 < 64 }
+        requires { toll.0 < 128 }
         ensures added { Has result toll.0 }
         ensures others { (a : ℕ) → a ≢ toll.0 → bit_at result a ≡ bit_at self a }
     {
@@ -41,13 +42,14 @@ impl TollSet {
 
     /// Whether the toll is in the set.
     pub fn has(self, toll: TollId) -> bool
-        requires { toll.0 < 64 }
+        requires { toll.0 < 128 }
         ensures { IsTrue result ↔ Has self toll.0 }
     {
         (self.0 >> toll.0) & 1 == 1
     }
 
     /// Whether each toll of this set is in the other.
+    #[tactic(auto, using(crate::proofs::TollSetLemmas::within_test))]
     pub fn is_within(self, other: TollSet) -> bool
         ensures { IsTrue result ↔ IsWithin self other }
     {
@@ -62,9 +64,51 @@ impl TollSet {
     }
 
     /// The number whose bit a tells whether toll a is in the set.
-    pub fn number(self) -> u64
+    pub fn number(self) -> u128
         ensures { result ≡ self }
     {
         self.0
+    }
+
+    /// The tolls of the set by rising number. It takes as many steps as there are tolls in the set.
+    pub fn tolls(self) -> TollsOfSet
+        ensures { result ≡ tolls_of self }
+    {
+        TollsOfSet { left: self.0 }
+    }
+}
+
+/// The tolls of a set that are still to come, by rising number.
+#[derive(Debug, Drop)]
+pub struct TollsOfSet {
+    left: u128,
+}
+
+impl Model for TollsOfSet {
+    ghost use Rattle.std.specs.Prelude.{ℕ, List};
+    ghost use Rattle.npp_net.specs.TollSets.{tolls_of};
+
+    ghost Value = { List ℕ };
+
+    ghost view = { λ tolls. tolls_of tolls.left };
+}
+
+impl Iterator for TollsOfSet {
+    ghost use Rattle.std.specs.Iterator.{YieldsFirstBy, item_count};
+
+    type Item = TollId;
+
+    ghost next_gives = { YieldsFirstBy (λ toll. toll.0) (λ tolls. tolls) };
+
+    ghost remaining = { item_count (λ tolls. tolls) };
+
+    #[tactic(auto, using(crate::proofs::TollSetLaws::tolls_of_lowest, crate::proofs::TollSetLaws::tolls_of_none))]
+    fn next(&mut self) -> Option<TollId> {
+        if self.left == 0 {
+            return None;
+        }
+        let lowest = self.left.trailing_zeros();
+        self.left &= !(1 << lowest);
+        Some(TollId(lowest))
     }
 }

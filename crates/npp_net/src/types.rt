@@ -41,6 +41,9 @@ pub struct NetArc {
     pub cost: u32,
     /// Whether the leader sets a toll on it.
     pub toll: bool,
+    /// The greatest toll that the leader may set, from 0 to 1,000,000,000, or None where there is no such limit. A
+    /// toll-free arc has none.
+    pub ceiling: Option<u32>,
 }
 
 /// Travellers from one node to another who all take the same walk.
@@ -68,11 +71,4 @@ pub struct Span {
 pub struct Walk {
     /// The arcs in the order of travel.
     pub arcs: Vec<ArcId>,
-}
-
-/// A toll for each toll arc, in the order of their toll numbers.
-#[derive(Debug, PartialEq, Eq, Drop)]
-pub struct Tolls<N> {
-    /// The tolls, none of them negative where they are asked of travellers.
-    pub values: Vec<N>,
 }

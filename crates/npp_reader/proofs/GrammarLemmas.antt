@@ -1,5 +1,5 @@
 -- What a line says, by its fields.
-use Rattle.std.proofs.Common.{◌≡◌, ◌≢◌, ℕ, true, false, List, [], ◌∷◌, slice_index, Ok, Err, refl, ◌∙◌, eq-eqb, Bool, cond, Result}
+use Rattle.std.proofs.Common.{◌≡◌, ◌≢◌, ℕ, true, false, List, [], ◌∷◌, slice_index, Ok, Err, refl, ◌∙◌, eq-eqb, Bool, cond, is_some, Result}
 use Rattle.std.specs.Str.{is_utf8}
 use Rattle.std.proofs.lemmas.Bool.{ne_eqb}
 use Rattle.npp_reader.specs.declared.kind.LineKind.{LineKind}
@@ -25,11 +25,11 @@ module _ (above : Declared) (word : List ℕ) (fields : List (List ℕ)) where
   unfolding after_fields
   remark_said e = rw (eq-eqb (slice_index word 0) 35 e)
 
-  word_said : slice_index word 0 ≢ 35 → above.header ≡ true → after_fields above (word ∷ fields) ≡ after_word above word fields
+  word_said : slice_index word 0 ≢ 35 → is_some above.format ≡ true → after_fields above (word ∷ fields) ≡ after_word above word fields
   unfolding after_fields
   word_said e h = rw (ne_eqb (slice_index word 0) 35 e, h)
 
-  header_said : slice_index word 0 ≢ 35 → above.header ≡ false → after_fields above (word ∷ fields) ≡ after_header above (word ∷ fields)
+  header_said : slice_index word 0 ≢ 35 → is_some above.format ≡ false → after_fields above (word ∷ fields) ≡ after_header above (word ∷ fields)
   unfolding after_fields
   header_said e h = rw (ne_eqb (slice_index word 0) 35 e, h)
 
@@ -43,11 +43,11 @@ module _ (above : Declared) (line word : List ℕ) (fields : List (List ℕ)) (g
   line_remark h = line_good above line (word ∷ fields) good e ∙ remark_said above word fields h
 
   -- a line below the header
-  pub line_word : slice_index word 0 ≢ 35 → above.header ≡ true → after_line above line ≡ after_word above word fields
+  pub line_word : slice_index word 0 ≢ 35 → is_some above.format ≡ true → after_line above line ≡ after_word above word fields
   line_word h header = line_good above line (word ∷ fields) good e ∙ word_said above word fields h header
 
   -- the line of the header
-  pub line_header : slice_index word 0 ≢ 35 → above.header ≡ false → after_line above line ≡ after_header above (word ∷ fields)
+  pub line_header : slice_index word 0 ≢ 35 → is_some above.format ≡ false → after_line above line ≡ after_header above (word ∷ fields)
   line_header h header = line_good above line (word ∷ fields) good e ∙ header_said above word fields h header
 
 -- which of two answers was given
@@ -56,9 +56,9 @@ pick true x y z P e f g = f refl e
 pick false x y z P e f g = g refl e
 
 -- the link of a line that has no fault
-pub linked : (names : List (List ℕ)) (next : Declared) (fields : List (List ℕ)) (after : Link → Result Declared LineKind) (P : Type 0) → and_then (link_of names fields) after ≡ Ok next
-    → ((link : Link) → link_of names fields ≡ Ok link → after link ≡ Ok next → P) → P
-linked names next fields after P e each = step (link_of names fields) refl e where
-  step : (r : Result Link LineKind) → link_of names fields ≡ r → and_then r after ≡ Ok next → P
+pub linked : (asked : Bool) (names : List (List ℕ)) (next : Declared) (fields : List (List ℕ)) (after : Link → Result Declared LineKind) (P : Type 0) → and_then (link_of asked names fields) after ≡ Ok next
+    → ((link : Link) → link_of asked names fields ≡ Ok link → after link ≡ Ok next → P) → P
+linked asked names next fields after P e each = step (link_of asked names fields) refl e where
+  step : (r : Result Link LineKind) → link_of asked names fields ≡ r → and_then r after ≡ Ok next → P
   step (Ok link) is e = each link is e
   step (Err kind) is e = absurd cc

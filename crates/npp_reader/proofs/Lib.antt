@@ -6,6 +6,10 @@ pub mod WithinLemmas
 pub mod ReadLemmas
 pub mod RefusalLemmas
 pub mod FieldLines
+pub mod WrittenFields
 pub mod RoundTrip
+pub mod LinkLemmas
 pub mod DeclaredLemmas
+pub mod DocumentLemmas
+pub mod FormatLemmas
 pub mod FaultLemmas

@@ -1,5 +1,5 @@
 -- What the lines of a text declare, each line by itself.
-use Rattle.std.specs.Prelude.{◌≡◌, ℕ, List, [], ◌∷◌, map, Option, Some, None, codes, ◌||◌, if◌then◌else◌}
+use Rattle.std.specs.Prelude.{◌≡◌, ℕ, true, List, [], ◌∷◌, map, Option, Some, None, codes, ◌||◌, if◌then◌else◌}
 use Rattle.std.specs.List.{filter_map}
 use Rattle.std.specs.Str.{bytes_eq}
 use Rattle.std.specs.Str.Parse.{digits_value}
@@ -8,17 +8,22 @@ use Rattle.npp_net.specs.declared.types.Commodity.{Commodity}
 use Rattle.npp_reader.specs.declared.document.Document.{Document}
 use Rattle.npp_reader.specs.Lines.{lines_of, fields_of}
 use Rattle.npp_reader.specs.Names.{node_of}
+use Rattle.npp_reader.specs.Fields.{ceiling_value}
 
 -- the name of a `node` line
 abbrev pub name_declared : List (List ℕ) → Option (List ℕ)
 name_declared (word ∷ name ∷ []) = if bytes_eq word (codes "node") then Some name else None
 name_declared fields = None
 
--- the arc of a `free` or `toll` line, its ends by the places of their names
+-- the arc of a `free` or `toll` line, its ends by the places of their names; a fourth field behind `toll` is its ceiling
 abbrev pub arc_declared : List (List ℕ) → List (List ℕ) → Option NetArc
 arc_declared names (word ∷ tail ∷ head ∷ cost ∷ []) =
     if bytes_eq word (codes "free") || bytes_eq word (codes "toll")
-    then Some (record { tail = node_of names tail; head = node_of names head; cost = digits_value 10 cost; toll = bytes_eq word (codes "toll") })
+    then Some (record { tail = node_of names tail; head = node_of names head; cost = digits_value 10 cost; toll = bytes_eq word (codes "toll"); ceiling = None })
+    else None
+arc_declared names (word ∷ tail ∷ head ∷ cost ∷ ceiling ∷ []) =
+    if bytes_eq word (codes "toll")
+    then Some (record { tail = node_of names tail; head = node_of names head; cost = digits_value 10 cost; toll = true; ceiling = ceiling_value ceiling })
     else None
 arc_declared names fields = None
 

@@ -1,11 +1,13 @@
 -- The first faulty line of a text: the least line with a fault, judged by what the lines above it declare.
-use Rattle.std.specs.Prelude.{◌≡◌, ℕ, ◌+◌, ◌<◌, Bool, false, not, List, [], ◌∷◌, map, take, drop, length, Option, Some, None, ◌==◌, slice_index}
-use Rattle.std.specs.List.{filter_map, list_any}
+use Rattle.std.specs.Prelude.{◌≡◌, ℕ, ◌+◌, ◌<◌, Bool, false, not, List, [], ◌∷◌, map, take, drop, length, Option, Some, None, ◌==◌, slice_index, if◌then◌else◌}
+use Rattle.std.specs.List.{filter_map}
 use Rattle.std.specs.Result.{result_err}
 use Rattle.npp_reader.specs.declared.kind.LineKind.{LineKind}
 use Rattle.npp_reader.specs.declared.refusal.ReadRefusal.{ReadRefusal}
 use Rattle.npp_reader.specs.declared.refusal.ReadRefusal.TheVariants.{Line, Memory}
+use Rattle.npp_reader.specs.declared.format.Format.{Format}
 use Rattle.npp_reader.specs.Lines.{lines_of, fields_of}
+use Rattle.npp_reader.specs.Format.{format_named}
 use Rattle.npp_reader.specs.Grammar.{Declared, after_line}
 use Rattle.npp_reader.specs.Reading.{at_end}
 use Rattle.npp_reader.specs.Declaring.{name_declared, arc_declared, pair_declared}
@@ -15,10 +17,15 @@ abbrev pub is_said : List (List ℕ) → Bool
 is_said [] = false
 is_said (word ∷ fields) = not (slice_index word 0 == 35)
 
--- what these lines declare, each by itself; the header stands where one is not skipped
+-- the format that the first of these lines names that is not skipped
+abbrev pub format_declared : List (List (List ℕ)) → Option Format
+format_declared [] = None
+format_declared (line ∷ lines) = if is_said line then format_named line else format_declared lines
+
+-- what these lines declare, each by itself
 abbrev pub declared_by : List (List (List ℕ)) → Declared
 declared_by lines = record {
-  header = list_any is_said lines;
+  format = format_declared lines;
   names = filter_map name_declared lines;
   arcs = filter_map (arc_declared (filter_map name_declared lines)) lines;
   commodities = filter_map (pair_declared (filter_map name_declared lines)) lines;

@@ -1,5 +1,6 @@
 pub mod Kind
 pub mod Lines
+pub mod Format
 pub mod Fields
 pub mod Names
 pub mod Grammar

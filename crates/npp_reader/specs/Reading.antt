@@ -1,5 +1,5 @@
 -- What the bytes of a text stand for.
-use Rattle.std.specs.Prelude.{ℕ, ◌+◌, List, [], ◌∷◌, length, Result, Ok, Err, not, ◌==◌}
+use Rattle.std.specs.Prelude.{ℕ, ◌+◌, List, [], ◌∷◌, length, is_some, Result, Ok, Err, not, ◌==◌}
 use Rattle.npp_reader.specs.declared.kind.LineKind.{LineKind}
 use Rattle.npp_reader.specs.declared.kind.LineKind.TheVariants.{Header, NoCommodity}
 use Rattle.npp_reader.specs.declared.document.Document.{Document}
@@ -15,7 +15,7 @@ document_of all = record { names = all.names; instance = record { nodes = length
 -- the end of a text has to stand below the header and a commodity
 unfoldable pub at_end : Declared → Result Document LineKind
 at_end all = judged
-    ((not all.header, Header)
+    ((not (is_some all.format), Header)
     ∷ (length all.commodities == 0, NoCommodity)
     ∷ [])
     (document_of all)

@@ -23,7 +23,7 @@ refusal_at number Memory = refused.Memory
 pub record IsWithin (all : Declared) : Type 0 where
   pub nodes : length all.names ≤ 1000
   pub arcs : length all.arcs ≤ 5000
-  pub tolls : toll_count all.arcs ≤ 64
+  pub tolls : toll_count all.arcs ≤ 128
   pub commodities : length all.commodities ≤ 100
   pub each_arc : All (IsArc (length all.names)) all.arcs
   pub each_commodity : All (IsCommodity (length all.names)) all.commodities

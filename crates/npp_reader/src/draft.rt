@@ -10,6 +10,7 @@ ghost use Rattle.npp_reader.specs.Taking.{IfKind, IsWithin};
 
 use crate::document::Document;
 use crate::field::name_of;
+use crate::format::{Format, asks_ceiling, format_named};
 use crate::kind::LineKind;
 use crate::line::{is_utf8, next_field, one_field};
 use crate::link::{Link, link_of};
@@ -24,18 +25,23 @@ use std::marker::Model;
 /// What the lines so far declare.
 #[derive(Drop)]
 pub(crate) struct Draft {
-    header: bool,
+    format: Option<Format>,
     names: Names,
     arcs: Vec<NetArc>,
+    tolls: usize,
     commodities: Vec<Commodity>,
 }
 
 impl Model for Draft {
+    ghost use Rattle.std.specs.Prelude.{◌≡◌};
+    ghost use Rattle.npp_net.specs.Network.{toll_count};
     ghost use Rattle.npp_reader.specs.Grammar.{Declared};
 
     ghost Value = { Declared };
 
-    ghost view = { λ d. record { header = d.header; names = d.names; arcs = d.arcs.items; commodities = d.commodities.items } };
+    ghost view = { λ d. record { format = d.format; names = d.names; arcs = d.arcs.items; commodities = d.commodities.items } };
+
+    ghost invariant = { λ d. d.tolls ≡ toll_count d.arcs.items };
 }
 
 impl Draft {
@@ -44,9 +50,10 @@ impl Draft {
         ensures { result ≡ nothing }
     {
         Draft {
-            header: false,
+            format: None,
             names: Names::empty(alloc),
             arcs: Vec::new(alloc),
+            tolls: 0,
             commodities: Vec::new(alloc),
         }
     }
@@ -66,7 +73,7 @@ impl Draft {
         if word[0] == b'#' {
             return Ok(());
         }
-        if self.header {
+        if self.format.is_some() {
             self.take_word(alloc, word, rest)
         } else {
             self.take_header(word, rest)
@@ -78,14 +85,13 @@ impl Draft {
         ensures taken { OnOk result (after_header self.old (word.now ∷ fields_of rest.now) ≡ Ok self.new) }
         ensures fault { IfErr result (IfKind (λ kind. after_header self.old (word.now ∷ fields_of rest.now) ≡ Err kind)) }
     {
-        let Some(number) = one_field(rest) else {
-            return Err(Fault::Kind(LineKind::Header));
-        };
-        if word != b"npp".as_slice() || number != b"1".as_slice() {
-            return Err(Fault::Kind(LineKind::Header));
+        match format_named(word, rest) {
+            None => Err(Fault::Kind(LineKind::Header)),
+            Some(format) => {
+                self.format = Some(format);
+                Ok(())
+            }
         }
-        self.header = true;
-        Ok(())
     }
 
     #[tactic(auto, unfolding(crate::specs::Grammar::after_word))]
@@ -98,15 +104,15 @@ impl Draft {
             return self.take_node(alloc, rest);
         }
         if word == b"free".as_slice() {
-            let link = link_of(&self.names, rest)?;
+            let link = link_of(&self.names, rest, false)?;
             return self.take_arc(false, link);
         }
         if word == b"toll".as_slice() {
-            let link = link_of(&self.names, rest)?;
+            let link = link_of(&self.names, rest, asks_ceiling(self.format))?;
             return self.take_arc(true, link);
         }
         if word == b"pair".as_slice() {
-            let link = link_of(&self.names, rest)?;
+            let link = link_of(&self.names, rest, false)?;
             return self.take_pair(link);
         }
         Err(Fault::Kind(LineKind::UnknownWord))
@@ -140,7 +146,7 @@ impl Draft {
         if self.arcs.len() >= MAX_ARCS {
             return Err(Fault::Kind(LineKind::TooManyArcs));
         }
-        if toll && self.arcs.iter().filter(|x| x.toll).count() >= MAX_TOLLS {
+        if toll && self.tolls >= MAX_TOLLS {
             return Err(Fault::Kind(LineKind::TooManyTolls));
         }
         self.arcs.push(NetArc {
@@ -148,7 +154,11 @@ impl Draft {
             head: link.to,
             cost: link.number,
             toll,
+            ceiling: link.ceiling,
         })?;
+        if toll {
+            self.tolls += 1;
+        }
         Ok(())
     }
 
@@ -185,12 +195,13 @@ impl Draft {
         ensures fault { IfErr result (IfKind (λ kind. at_end self ≡ Err kind)) }
     {
         let Draft {
-            header,
+            format,
             names,
             arcs,
             commodities,
+            tolls: _,
         } = self;
-        if !header {
+        if format.is_none() {
             return Err(Fault::Kind(LineKind::Header));
         }
         if commodities.is_empty() {

@@ -1,14 +1,15 @@
-//! The fields that are names, and those that are numbers.
+//! The fields that are names, numbers and ceilings.
 
-ghost use Rattle.std.specs.Prelude.{◌≡◌, true, false, MatchResult};
+ghost use Rattle.std.specs.Prelude.{◌≡◌, true, false, not, nat_lt, [], ◌∷◌, MatchResult};
 ghost use Rattle.std.specs.List.{list_all};
 ghost use Rattle.std.specs.Char.{is_ascii_digit};
 ghost use Rattle.std.specs.Str.Parse.{digits_value};
 ghost use Rattle.npp_reader.specs.Fields as fields;
-ghost use Rattle.npp_reader.specs.Grammar as grammar;
+ghost use Rattle.npp_reader.specs.Grammar.{judged};
+ghost use Rattle.npp_net.specs.Refusal.{is_ceiling_too_large};
 
 use crate::kind::LineKind;
-use npp_net::MAX_NUMBER;
+use npp_net::{MAX_CEILING, MAX_NUMBER};
 
 /// The most bytes of a name.
 const MAX_NAME: usize = 32;
@@ -28,7 +29,7 @@ fn are_name_bytes(field: &[u8]) -> bool
     field.iter().all(|b| is_name_byte(*b))
 }
 
-#[tactic(auto, unfolding(crate::specs::Fields::is_name))]
+#[tactic(auto, unfolding(crate::specs::Fields::is_name), using(crate::proofs::FieldLemmas::name_test))]
 fn is_name(field: &[u8]) -> bool
     ensures { result ≡ fields.is_name field.now }
 {
@@ -56,7 +57,7 @@ fn are_digits(field: &[u8]) -> bool
     field.iter().all(|b| b.is_ascii_digit())
 }
 
-#[tactic(auto, unfolding(crate::specs::Fields::is_number))]
+#[tactic(auto, unfolding(crate::specs::Fields::is_number), using(crate::proofs::FieldLemmas::number_test))]
 fn is_number(field: &[u8]) -> bool
     ensures { result ≡ fields.is_number field.now }
 {
@@ -75,16 +76,49 @@ fn value_of(field: &[u8]) -> u64
     value
 }
 
-/// The value of a field that is a number of at most 1,000,000.
-pub(crate) fn number_of(field: &[u8]) -> Result<u32, LineKind>
-    ensures { result ≡ grammar.number_of field.now }
+/// The value of a field that has to be a number.
+pub(crate) fn number_of(field: &[u8]) -> Result<u64, LineKind>
+    ensures { result ≡ judged ((not (fields.is_number field.now), LineKind.BadNumber) ∷ []) (digits_value 10 field.now) }
 {
     if !is_number(field) {
         return Err(LineKind::BadNumber);
     }
-    let value = value_of(field);
+    Ok(value_of(field))
+}
+
+/// The ceiling of a field that has to be one: a number, or `-` for none.
+#[tactic(auto, unfolding(crate::specs::Fields::is_ceiling, crate::specs::Fields::ceiling_value))]
+pub(crate) fn ceiling_of(field: &[u8]) -> Result<Option<u64>, LineKind>
+    ensures { result ≡ judged ((not (fields.is_ceiling field.now), LineKind.BadNumber) ∷ []) (fields.ceiling_value field.now) }
+{
+    if field == b"-".as_slice() {
+        return Ok(None);
+    }
+    let value = number_of(field)?;
+    Ok(Some(value))
+}
+
+/// A number that is a cost or a demand.
+pub(crate) fn amount_of(value: u64) -> Result<u32, LineKind>
+    ensures { result ≡ judged ((nat_lt 1000000 value, LineKind.NumberTooLarge) ∷ []) value }
+{
     if value > u64::from(MAX_NUMBER) {
         return Err(LineKind::NumberTooLarge);
     }
     Ok(value as u32)
+}
+
+/// A ceiling that may stand.
+pub(crate) fn allowed(ceiling: Option<u64>) -> Result<Option<u32>, LineKind>
+    ensures { result ≡ judged ((is_ceiling_too_large ceiling, LineKind.NumberTooLarge) ∷ []) ceiling }
+{
+    match ceiling {
+        None => Ok(None),
+        Some(value) => {
+            if value > u64::from(MAX_CEILING) {
+                return Err(LineKind::NumberTooLarge);
+            }
+            Ok(Some(value as u32))
+        }
+    }
 }

@@ -11,22 +11,23 @@ pub enum LineKind {
     /// The line is not UTF-8.
     #[error("Utf8")]
     Utf8,
-    /// The first line that is not skipped is not `npp 1`, or every line is skipped.
+    /// The first line that is not skipped is neither `npp 1` nor `npp 2`, or every line is skipped.
     #[error("Header")]
     Header,
     /// The first field is none of `node`, `free`, `toll` and `pair`.
     #[error("UnknownWord")]
     UnknownWord,
-    /// The number of fields is not that of the word.
+    /// The number of fields is not that of the word, or for `toll` not that of the format.
     #[error("FieldCount")]
     FieldCount,
     /// The field of a name is none: it has not 1 to 32 bytes, or not all are letters, digits, `_`, `-` and `.`.
     #[error("BadName")]
     BadName,
-    /// The field of a number is none: it has not 1 to 18 bytes, or not all are decimal digits.
+    /// The field of a number is none: it has not 1 to 18 bytes, or not all are decimal digits. The field of a ceiling may
+    /// also be `-`.
     #[error("BadNumber")]
     BadNumber,
-    /// The number is over 1,000,000.
+    /// A cost or a demand is over 1,000,000, or a ceiling is over 1,000,000,000.
     #[error("NumberTooLarge")]
     NumberTooLarge,
     /// A node is declared whose name is declared above.
@@ -47,7 +48,7 @@ pub enum LineKind {
     /// It would be the 5,001st arc.
     #[error("TooManyArcs")]
     TooManyArcs,
-    /// It would be the 65th toll arc.
+    /// It would be the 129th toll arc.
     #[error("TooManyTolls")]
     TooManyTolls,
     /// It would be the 101st commodity.

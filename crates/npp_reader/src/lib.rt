@@ -4,6 +4,7 @@
 mod document;
 mod draft;
 mod field;
+mod format;
 mod kind;
 mod line;
 mod link;

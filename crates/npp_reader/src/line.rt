@@ -103,3 +103,14 @@ pub(crate) fn three_fields(line: &[u8]) -> Option<(&[u8], &[u8], &[u8])>
     let third = one_field(rest)?;
     Some((first, second, third))
 }
+
+/// The fields of a line that has exactly four.
+pub(crate) fn four_fields(line: &[u8]) -> Option<(&[u8], &[u8], &[u8], &[u8])>
+    ensures { MatchOption result
+        (length (fields_of line.now) ≢ 4)
+        (λ r. fields_of line.now ≡ r.0.now ∷ r.1.now ∷ r.2.now ∷ r.3.now ∷ []) }
+{
+    let (first, rest) = next_field(line)?;
+    let (second, third, fourth) = three_fields(rest)?;
+    Some((first, second, third, fourth))
+}

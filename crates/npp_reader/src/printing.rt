@@ -4,16 +4,19 @@ ghost use Rattle.std.specs.Prelude.{◌≡◌, ◌++◌, ◌<◌, ◌≤◌, Ok,
 ghost use Rattle.std.specs.List.{flat_map};
 ghost use Rattle.npp_net.specs.Network.{IsArc, IsCommodity};
 ghost use Rattle.npp_reader.specs.Canonical.{canonical_text, line_of, node_fields, arc_fields, pair_fields};
+ghost use Rattle.npp_reader.specs.Format.{header_fields};
 ghost use Rattle.npp_reader.specs.Names.{AreNames};
 ghost use Rattle.npp_reader.specs.Reading.{reading_of};
 
 use crate::document::Document;
+use crate::format::{Format, format_for};
 use crate::names::Names;
 use npp_net::{Commodity, Memory, NetArc, NodeId};
 use std::alloc::Global;
 
-/// The canonical text of a document: the line `npp 1`, then the nodes, the arcs and the commodities, each in order, with
-/// single spaces, no leading zeros and a line feed after each line. Reading it gives the document back.
+/// The canonical text of a document: the header, then the nodes, the arcs and the commodities, each in order, with single
+/// spaces, no leading zeros and a line feed after each line. The header is `npp 2` where an arc has a ceiling, and `npp 1`
+/// elsewhere. Reading the text gives the document back.
 pub fn print(alloc: Global, document: &Document) -> Result<String, Memory>
     requires { length document.now.names ≡ document.now.instance.nodes }
     ensures text { IfOk result (λ text. string_bytes text ≡ canonical_text document.now) }
@@ -22,11 +25,22 @@ pub fn print(alloc: Global, document: &Document) -> Result<String, Memory>
     let names = &document.names;
     let arcs = document.instance.arcs();
     let commodities = document.instance.commodities();
-    let mut text = String::from_str(alloc, "npp 1\n")?;
+    let format = format_for(arcs);
+    let mut text = String::from_str(alloc, header(format))?;
     print_nodes(&mut text, names)?;
-    print_arcs(&mut text, names, arcs)?;
+    print_arcs(&mut text, format, names, arcs)?;
     print_pairs(&mut text, names, commodities)?;
     Ok(text)
+}
+
+/// The header's line.
+fn header(format: Format) -> &'static str
+    ensures { result.now ≡ line_of (header_fields format) }
+{
+    match format {
+        Format::One => "npp 1\n",
+        Format::Two => "npp 2\n",
+    }
 }
 
 fn print_nodes(text: &mut String, names: &Names) -> Result<(), Memory>
@@ -41,25 +55,37 @@ fn print_nodes(text: &mut String, names: &Names) -> Result<(), Memory>
     Ok(())
 }
 
-fn print_arcs(text: &mut String, names: &Names, arcs: &[NetArc]) -> Result<(), Memory>
+fn print_arcs(
+    text: &mut String,
+    format: Format,
+    names: &Names,
+    arcs: &[NetArc],
+) -> Result<(), Memory>
     requires { All (IsArc (length names.now)) arcs.now }
-    ensures { OnOk result (string_bytes text.new ≡ string_bytes text.old ++ flat_map line_of (map (arc_fields names.now) arcs.now)) }
+    ensures { OnOk result (string_bytes text.new ≡ string_bytes text.old ++ flat_map line_of (map (arc_fields format names.now) arcs.now)) }
 {
     for x in arcs {
-        print_arc(text, names, *x)?;
+        print_arc(text, format, names, *x)?;
     }
     Ok(())
 }
 
-fn print_arc(text: &mut String, names: &Names, x: NetArc) -> Result<(), Memory>
+fn print_arc(text: &mut String, format: Format, names: &Names, x: NetArc) -> Result<(), Memory>
     requires { IsArc (length names.now) x }
-    ensures { OnOk result (string_bytes text.new ≡ string_bytes text.old ++ line_of (arc_fields names.now x)) }
+    ensures { OnOk result (string_bytes text.new ≡ string_bytes text.old ++ line_of (arc_fields format names.now x)) }
 {
-    let word = if x.toll { "toll" } else { "free" };
     let tail = names.name(x.tail);
     let head = names.name(x.head);
     let cost = x.cost;
-    write!(text, "{word} {tail} {head} {cost}\n")?;
+    if !x.toll {
+        write!(text, "free {tail} {head} {cost}\n")?;
+        return Ok(());
+    }
+    match (format, x.ceiling) {
+        (Format::One, _) => write!(text, "toll {tail} {head} {cost}\n")?,
+        (Format::Two, None) => write!(text, "toll {tail} {head} {cost} -\n")?,
+        (Format::Two, Some(most)) => write!(text, "toll {tail} {head} {cost} {most}\n")?,
+    }
     Ok(())
 }
 

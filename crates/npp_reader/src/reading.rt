@@ -17,8 +17,9 @@ use std::alloc::Global;
 ///
 /// The bytes are lines that end with a line feed, or with a carriage return and a line feed. The fields of a line are
 /// divided by spaces and tabs. A line without fields, or whose first field begins with `#`, is skipped. The first other
-/// line is `npp 1`; the lines after it are `node NAME`, `free TAIL HEAD COST`, `toll TAIL HEAD COST` and
-/// `pair ORIGIN DESTINATION DEMAND`, in any order that declares each name before it is used.
+/// line is `npp 1` or `npp 2`; the lines after it are `node NAME`, `free TAIL HEAD COST`, `toll TAIL HEAD COST` and
+/// `pair ORIGIN DESTINATION DEMAND`, in any order that declares each name before it is used. Below `npp 2` the line of a
+/// toll arc is `toll TAIL HEAD COST CEILING`, with a number or `-` for none.
 pub fn read(alloc: Global, bytes: &[u8]) -> Result<Document, ReadRefusal>
     ensures answer { (result ≡ Err ReadRefusal.Memory) ⊎ (result ≡ reading_of bytes.now) }
     ensures accepted { OnOk result (IsAccepted bytes.now) }

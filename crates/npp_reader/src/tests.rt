@@ -8,6 +8,8 @@ use std::test::Fail;
 
 const SMALL: &str = "npp 1\nnode a\nnode b\nfree a b 10\ntoll a b 2\npair a b 5\n";
 
+const CEILING: &str = "npp 2\nnode a\nnode b\nfree a b 10\ntoll a b 2 3\npair a b 5\n";
+
 /// What reading a text gives: its canonical text, or its first faulty line.
 fn answer(alloc: Global, bytes: &[u8]) -> Result<String, AllocError> {
     match read(alloc, bytes) {
@@ -47,7 +49,7 @@ fn reads_and_refuses(rt: HostRuntime) -> Result<(), Fail> {
         ),
         ("", "line 1: Header"),
         ("\n# npp 1\n", "line 3: Header"),
-        ("npp 2\n", "line 1: Header"),
+        ("npp 3\n", "line 1: Header"),
         ("npp 1\nnode a\nnode a\n", "line 3: RepeatedNode"),
         (
             "npp 1\nnode a\nnode b\nfree a b 1000001\n",
@@ -69,11 +71,49 @@ fn reads_and_refuses(rt: HostRuntime) -> Result<(), Fail> {
         ("npp 1\nfree a b 1x\n", "line 2: BadNumber"),
         ("npp 1\nfree a b 0000000000000000001\n", "line 2: BadNumber"),
         ("npp 1\nnode \0\n", "line 2: BadName"),
+        (
+            "npp 1\nnode a\nnode b\ntoll a b 2 -\n",
+            "line 4: FieldCount",
+        ),
     ];
     for (text, want) in cases {
         expect_answer(&rt, rt.alloc(), text.as_bytes(), want)?;
     }
     expect_answer(&rt, rt.alloc(), b"# \xff\n", "line 1: Utf8")?;
+    Ok(())
+}
+
+/// The text of `CEILING` with another line for the toll arc.
+fn with_toll(alloc: Global, line: &str) -> Result<String, AllocError> {
+    format!(in alloc; "npp 2\nnode a\nnode b\nfree a b 10\n{line}\npair a b 5\n")
+}
+
+#[test]
+fn reads_ceilings(rt: HostRuntime) -> Result<(), Fail> {
+    let alloc = rt.alloc();
+    let two_ceilings =
+        "npp 2\nnode a\nnode b\nfree a b 10\ntoll a b 2 3\ntoll a b 4 -\npair a b 5\n";
+    expect_answer(&rt, alloc, CEILING.as_bytes(), CEILING)?;
+    expect_answer(&rt, alloc, two_ceilings.as_bytes(), two_ceilings)?;
+    let cases = [
+        ("toll a b 2 -", SMALL),
+        ("toll a b 2 003", CEILING),
+        ("toll a b 2", "line 5: FieldCount"),
+        ("toll a b 2 3 4", "line 5: FieldCount"),
+        ("toll a b 2 x", "line 5: BadNumber"),
+        ("toll a b 2 --", "line 5: BadNumber"),
+        ("toll a b 2 1000000001", "line 5: NumberTooLarge"),
+        ("toll a b 1000001 x", "line 5: BadNumber"),
+        ("toll a c 2 1000000001", "line 5: NumberTooLarge"),
+        ("free a b 2 3", "line 5: FieldCount"),
+    ];
+    for (line, want) in cases {
+        let text = with_toll(alloc, line)?;
+        expect_answer(&rt, alloc, text.as_bytes(), want)?;
+    }
+    let document = read(alloc, CEILING.as_bytes())?;
+    let arcs = document.instance.arcs();
+    assert!(rt; arcs.iter().any(|x| x.ceiling == Some(3)));
     Ok(())
 }
 
@@ -122,7 +162,8 @@ fn refuses_past_the_limits(rt: HostRuntime) -> Result<(), Fail> {
     )?;
     let cases = [
         ("free 0 1 7\n", 5001, "line 5004: TooManyArcs"),
-        ("toll 0 1 7\n", 65, "line 68: TooManyTolls"),
+        ("toll 0 1 7\n", 128, "line 132: NoCommodity"),
+        ("toll 0 1 7\n", 129, "line 132: TooManyTolls"),
         ("pair 0 1 7\n", 101, "line 104: TooManyCommodities"),
     ];
     for (line, count, want) in cases {

@@ -11,6 +11,7 @@ fn arc(tail: u32, head: u32, cost: u32, toll: bool) -> NetArc {
         head: NodeId(head),
         cost,
         toll,
+        ceiling: None,
     }
 }
 

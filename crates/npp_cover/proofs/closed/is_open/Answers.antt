@@ -1,5 +1,4 @@
-use Rattle.std.proofs.Common.{◌<◌, sym, ◌∙◌, ap, subst, Vec}
-use Rattle.std.specs.declared.alloc.Global.{Global}
+use Rattle.std.proofs.Common.{◌<◌, sym, subst, arith}
 use Rattle.npp_net.specs.declared.types.NodeId.{NodeId}
 use Rattle.npp_short.specs.Reach.{cost_at}
 use Rattle.npp_cover.specs.declared.label.Label.{Label}
@@ -15,7 +14,5 @@ returns-then-can_win c =
     let lt : c.label_after-next.result.node.0 < c.args.instance.now.nodes =
     subst (λ (n : NodeId). n.0 < c.args.instance.now.nodes) (sym capped.node) (head_within c.args.instance.now c.args.arc c.requires.network c.requires.arc) in
     open_is c.args.instance.now.arcs (cost_at c.args.potentials.now) c.args.free c.args.labels.now (label_at c.args.labels.now c.args.number) c.args.number c.args.arc
-    c.label_after-next.result c.deref.result.now c.is_dominated.result c.ranges.free.fits capped (sym c.if-can_win.ensures)
-    (c.deref.ensures.value ∙ (ap (λ (v : Vec Label Global). v.items) c.index-by_node-next.is
-    ∙ c.requires.by_node.each c.label_after-next.result.node.0 c.index-by_node-next.result lt))
-    c.is_dominated.ensures
+    c.label_after-next.result c.args.table.now c.dominates.result c.ranges.free.fits capped (sym c.if-can_win.ensures)
+    c.requires.table (omega (arith, lt, c.requires.nodes)) c.dominates.ensures

@@ -4,7 +4,7 @@ use Rattle.npp_reader.specs.Lines.{lines_of}
 use Rattle.npp_reader.specs.Reading.{reading_from, reading_of}
 use Rattle.npp_reader.specs.Taking.{refusal_at}
 use Rattle.npp_reader.proofs.ReadLemmas.{nothing_within, reading_begins, reading_step, reading_ends, none_left, refused_end, refused_line, IsAnswer}
-use Rattle.npp_reader.proofs.DeclaredLemmas.{document_declared}
+use Rattle.npp_reader.proofs.DocumentLemmas.{document_declared}
 use Rattle.npp_reader.proofs.FaultLemmas.{accepted, refused_answer}
 use Rattle.npp_reader.proofs.WithinLemmas.{line_within}
 use Rattle.npp_reader.proofs.reading.read.Goals as goal

@@ -1,7 +1,6 @@
-use Rattle.std.proofs.Common.{◌≡◌, true, false, List, [], ◌∷◌, ◌++◌, length, codes, refl, ap, String, string_bytes, arith, ◌∙◌}
-use Rattle.std.specs.declared.alloc.Global.{Global}
+use Rattle.std.proofs.Common.{[], ◌∷◌, codes, refl, arith}
 use Rattle.npp_reader.specs.Fields.{is_name}
-use Rattle.npp_reader.specs.Names.{AreNames, texts}
+use Rattle.npp_reader.specs.Names.{AreNames}
 use Rattle.npp_reader.proofs.NameLemmas.{names_push}
 use Rattle.npp_reader.proofs.tests.takes_names.Goals as goal
 

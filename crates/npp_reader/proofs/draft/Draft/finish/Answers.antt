@@ -9,7 +9,7 @@ use Rattle.npp_reader.proofs.draft.Draft.finish.Goals as goal
 
 pub unreachable-requires : goal.unreachable-requires
 unreachable-requires c =
-    let all : Declared = record { header = c.self.inside.header; names = c.self.inside.names; arcs = c.self.inside.arcs.items; commodities = c.self.inside.commodities.items } in
+    let all : Declared = record { format = c.self.inside.format; names = c.self.inside.names; arcs = c.self.inside.arcs.items; commodities = c.self.inside.commodities.items } in
     let is : IsWithin all = subst IsWithin (sym c.self.view_is) c.requires.within in
     let some : 0 < length c.self.inside.commodities.items = grind (arith, nat_tests) in
     let net : Network = record { nodes = c.len.result; arcs = all.arcs; commodities = all.commodities } in

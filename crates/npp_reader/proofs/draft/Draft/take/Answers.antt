@@ -1,4 +1,4 @@
-use Rattle.std.proofs.Common.{◌≡◌, true, false, sym, ◌∙◌, ap}
+use Rattle.std.proofs.Common.{◌≡◌, true, false, sym, ◌∙◌, ap, is_some}
 use Rattle.std.specs.Str.{is_utf8}
 use Rattle.npp_reader.specs.Lines.{fields_of}
 use Rattle.npp_reader.specs.Grammar.{Declared}
@@ -20,26 +20,30 @@ returns-then-word-eq35-clause-taken c =
     let good : is_utf8 c.args.line.now ≡ true = cc in
     line_remark c.args.self.now c.args.line.now c.in-Some.word.now (fields_of c.in-Some.rest.now) good c.in-Some.ensures.fields c.if-word-eq35.true
 
-pub returns-then-self-clause-taken : goal.returns-then-self-clause-taken
-returns-then-self-clause-taken c =
+pub returns-then-is_some-clause-taken : goal.returns-then-is_some-clause-taken
+returns-then-is_some-clause-taken c =
     let good : is_utf8 c.args.line.now ≡ true = cc in
-    let header : c.args.self.now.header ≡ true = ap (λ (d : Declared). d.header) (sym c.self.view_is) ∙ c.if-self.true in
+    let named : is_some c.self.inside.format ≡ true = cc in
+    let header : is_some c.args.self.now.format ≡ true = ap (λ (d : Declared). is_some d.format) (sym c.self.view_is) ∙ named in
     rw (line_word c.args.self.now c.args.line.now c.in-Some.word.now (fields_of c.in-Some.rest.now) good c.in-Some.ensures.fields c.if-word-eq35.false header) c.take_word.ensures.taken
 
-pub returns-then-self-clause-fault : goal.returns-then-self-clause-fault
-returns-then-self-clause-fault c =
+pub returns-then-is_some-clause-fault : goal.returns-then-is_some-clause-fault
+returns-then-is_some-clause-fault c =
     let good : is_utf8 c.args.line.now ≡ true = cc in
-    let header : c.args.self.now.header ≡ true = ap (λ (d : Declared). d.header) (sym c.self.view_is) ∙ c.if-self.true in
+    let named : is_some c.self.inside.format ≡ true = cc in
+    let header : is_some c.args.self.now.format ≡ true = ap (λ (d : Declared). is_some d.format) (sym c.self.view_is) ∙ named in
     simp (line_word c.args.self.now c.args.line.now c.in-Some.word.now (fields_of c.in-Some.rest.now) good c.in-Some.ensures.fields c.if-word-eq35.false header) c.take_word.ensures.fault
 
-pub returns-else-self-clause-taken : goal.returns-else-self-clause-taken
-returns-else-self-clause-taken c =
+pub returns-else-is_some-clause-taken : goal.returns-else-is_some-clause-taken
+returns-else-is_some-clause-taken c =
     let good : is_utf8 c.args.line.now ≡ true = cc in
-    let header : c.args.self.now.header ≡ false = ap (λ (d : Declared). d.header) (sym c.self.view_is) ∙ c.if-self.false in
+    let named : is_some c.self.inside.format ≡ false = cc in
+    let header : is_some c.args.self.now.format ≡ false = ap (λ (d : Declared). is_some d.format) (sym c.self.view_is) ∙ named in
     rw (line_header c.args.self.now c.args.line.now c.in-Some.word.now (fields_of c.in-Some.rest.now) good c.in-Some.ensures.fields c.if-word-eq35.false header) c.take_header.ensures.taken
 
-pub returns-else-self-clause-fault : goal.returns-else-self-clause-fault
-returns-else-self-clause-fault c =
+pub returns-else-is_some-clause-fault : goal.returns-else-is_some-clause-fault
+returns-else-is_some-clause-fault c =
     let good : is_utf8 c.args.line.now ≡ true = cc in
-    let header : c.args.self.now.header ≡ false = ap (λ (d : Declared). d.header) (sym c.self.view_is) ∙ c.if-self.false in
+    let named : is_some c.self.inside.format ≡ false = cc in
+    let header : is_some c.args.self.now.format ≡ false = ap (λ (d : Declared). is_some d.format) (sym c.self.view_is) ∙ named in
     simp (line_header c.args.self.now c.args.line.now c.in-Some.word.now (fields_of c.in-Some.rest.now) good c.in-Some.ensures.fields c.if-word-eq35.false header) c.take_header.ensures.fault
