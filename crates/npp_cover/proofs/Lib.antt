@@ -1,6 +1,8 @@
 pub mod TestLemmas
 pub mod FreeLemmas
 pub mod SetLemmas
+pub mod BlockLemmas
+pub mod PartLemmas
 pub mod DominanceLemmas
 pub mod GrowthLaws
 pub mod ClosureLemmas
@@ -10,7 +12,10 @@ pub mod SumLemmas
 pub mod TreeLemmas
 pub mod ReplaceLemmas
 pub mod CoverLemmas
+pub mod NeededLemmas
+pub mod NeededLists
 pub mod FaultLemmas
+pub mod StandLemmas
 pub mod GrowingLemmas
 pub mod SimpleWalks
 pub mod OnwardLaws

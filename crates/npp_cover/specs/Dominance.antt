@@ -1,12 +1,13 @@
 -- What a table of labels answers: whether one of those put in dominates.
 use Rattle.std.specs.Prelude.{◌≡◌, ℕ, ◌<◌, Bool, List, [], ◌∷◌, ◌++◌, length, slice_index_or}
-use Rattle.std.specs.List.{list_any}
 use Rattle.npp_cover.specs.declared.label.Label.{Label}
-use Rattle.npp_cover.specs.Fault.{is_no_worse, is_dominated}
+use Rattle.npp_cover.specs.declared.blocks.Pair.{Pair}
+use Rattle.npp_cover.specs.Blocks.{some_no_worse}
+use Rattle.npp_cover.specs.Fault.{is_dominated}
 
--- what a table holds: for each node a list of the labels there
+-- what a table holds: for each node the sets and costs of labels there
 abbrev pub TableValue : Type 0
-TableValue = List (List Label)
+TableValue = List (List Pair)
 
 -- how many nodes a table has
 abbrev pub nodes_of : TableValue → ℕ
@@ -14,7 +15,7 @@ nodes_of table = length table
 
 -- whether a label in the table, at v, has a set within this one and a cost not above
 abbrev pub answer_of : TableValue → ℕ → ℕ → ℕ → Bool
-answer_of table v s cost = list_any (λ l. is_no_worse l s cost) (slice_index_or table v [])
+answer_of table v s cost = some_no_worse (slice_index_or table v []) s cost
 
 -- at each node it answers whether one of these labels dominates
 pub record AnswersFor (labels : List Label) (table : TableValue) : Type 0 where

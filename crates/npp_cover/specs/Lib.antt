@@ -1,7 +1,9 @@
 pub mod Useful
 pub mod Labels
 pub mod Fault
+pub mod Blocks
 pub mod Dominance
+pub mod Needed
 pub mod Growing
 pub mod Paths
 pub mod PathValue

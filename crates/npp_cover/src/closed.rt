@@ -5,12 +5,15 @@ ghost use Rattle.npp_net.specs.Network.{IsNetwork};
 ghost use Rattle.npp_short.specs.Reach.{cost_at};
 ghost use Rattle.npp_cover.specs.Labels.{label_at};
 ghost use Rattle.npp_cover.specs.Fault.{is_open, open_arc, open_fault, Answers};
+ghost use Rattle.std.specs.Bool.{OnFalse};
 ghost use Rattle.npp_cover.specs.Dominance.{nodes_of, AnswersFor};
+ghost use Rattle.npp_cover.specs.Needed.{AreNeeded};
 
 use crate::dominance::DominanceTable;
 use crate::extend::{can_win, label_after};
 use crate::fault::CoverFault;
 use crate::label::{Label, StepDraft, label_at};
+use crate::needed::NeededArcs;
 use npp_net::{ArcId, Instance};
 use npp_short::Potentials;
 use std::alloc::{AllocError, Global};
@@ -45,6 +48,35 @@ fn is_open(
         && !table.dominates(next.node, next.tolls, next.cost)
 }
 
+/// Whether the label is open by a needed arc. Where it is not it is open by none.
+fn is_open_by_needed(
+    instance: &Instance,
+    potentials: &Potentials,
+    free: u64,
+    labels: &[Label],
+    table: &DominanceTable,
+    needed: &NeededArcs,
+    number: u32,
+) -> bool
+    requires network { IsNetwork instance.now }
+    requires potentials { length potentials.now ≡ instance.now.nodes }
+    requires needed { AreNeeded instance.now.arcs (cost_at potentials.now) free instance.now.nodes needed.now }
+    requires nodes { nodes_of table.now ≡ instance.now.nodes }
+    requires table { AnswersFor labels.now table.now }
+    requires number { number < length labels.now }
+    requires node { (label_at labels.now number).node.0 < instance.now.nodes }
+    ensures { OnFalse result (open_arc instance.now.arcs (cost_at potentials.now) free labels.now (label_at labels.now number) ≡ None) }
+{
+    let node = label_at(labels, number).node;
+    for next in needed.at(node) {
+        let arc = ArcId(next.arc);
+        if is_open(instance, potentials, free, labels, table, number, arc) {
+            return true;
+        }
+    }
+    false
+}
+
 /// The first arc from the label's node by which it is open.
 fn open_arc(
     instance: &Instance,
@@ -52,16 +84,21 @@ fn open_arc(
     free: u64,
     labels: &[Label],
     table: &DominanceTable,
+    needed: &NeededArcs,
     number: u32,
 ) -> Option<ArcId>
     requires network { IsNetwork instance.now }
     requires potentials { length potentials.now ≡ instance.now.nodes }
+    requires needed { AreNeeded instance.now.arcs (cost_at potentials.now) free instance.now.nodes needed.now }
     requires nodes { nodes_of table.now ≡ instance.now.nodes }
     requires table { AnswersFor labels.now table.now }
     requires number { number < length labels.now }
     requires node { (label_at labels.now number).node.0 < instance.now.nodes }
     ensures { result ≡ open_arc instance.now.arcs (cost_at potentials.now) free labels.now (label_at labels.now number) }
 {
+    if !is_open_by_needed(instance, potentials, free, labels, table, needed, number) {
+        return None;
+    }
     let node = label_at(labels, number).node;
     for arc in instance.leaving(node) {
         if is_open(instance, potentials, free, labels, table, number, *arc) {
@@ -86,8 +123,9 @@ pub(crate) fn judge_closure(
     ensures { Answers result (open_fault instance.now.arcs (cost_at potentials.now) free labels.now) }
 {
     let table = table_of(alloc, instance.nodes(), labels)?;
+    let needed = NeededArcs::new(alloc, instance, potentials, free)?;
     for number in 0..labels.len() as u32 {
-        if let Some(arc) = open_arc(instance, potentials, free, labels, &table, number) {
+        if let Some(arc) = open_arc(instance, potentials, free, labels, &table, &needed, number) {
             return Err(CoverFault::NotClosed(number, arc));
         }
     }

@@ -1,10 +1,9 @@
 //! Which labels are dominated.
 
 ghost use Rattle.std.specs.Prelude.{◌≡◌, ◌<◌, [], IfOk};
-ghost use Rattle.std.specs.List.{list_any};
-ghost use Rattle.npp_cover.specs.Fault.{is_no_worse};
 ghost use Rattle.npp_cover.specs.Dominance.{nodes_of, answer_of, AnswersFor, PutsIn};
 
+use crate::blocks::{Block, Pair, put, some_block_has};
 use crate::label::Label;
 use npp_net::{NodeId, TollSet, empty_lists};
 use std::alloc::{AllocError, Global};
@@ -13,16 +12,19 @@ use std::marker::Model;
 /// Labels by their nodes, asked whether one of them dominates. How it is found is no part of what callers know.
 #[derive(Drop)]
 pub struct DominanceTable {
-    by_node: Vec<Vec<Label>>,
+    by_node: Vec<Vec<Block>>,
 }
 
 impl Model for DominanceTable {
-    ghost use Rattle.std.specs.Prelude.{map};
+    ghost use Rattle.std.specs.Prelude.{map, All};
     ghost use Rattle.npp_cover.specs.Dominance.{TableValue};
+    ghost use Rattle.npp_cover.specs.Blocks.{pairs_of, AreKeyed};
 
     ghost Value = { TableValue };
 
-    ghost view = { λ t. map (λ labels. labels.items) t.by_node.items };
+    ghost view = { λ t. map (λ blocks. pairs_of blocks.items) t.by_node.items };
+
+    ghost invariant = { λ t. All (λ blocks. AreKeyed blocks.items) t.by_node.items };
 }
 
 impl DominanceTable {
@@ -42,7 +44,11 @@ impl DominanceTable {
         ensures { IfOk result (PutsIn label self) }
     {
         let DominanceTable { mut by_node } = self;
-        by_node[label.node.0 as usize].push(label)?;
+        let pair = Pair {
+            tolls: label.tolls,
+            cost: label.cost,
+        };
+        put(&mut by_node[label.node.0 as usize], pair)?;
         Ok(DominanceTable { by_node })
     }
 
@@ -51,20 +57,6 @@ impl DominanceTable {
         requires { node.0 < nodes_of self.now }
         ensures { result ≡ answer_of self.now node.0 tolls cost }
     {
-        has_no_worse(&self.by_node[node.0 as usize], tolls, cost)
+        some_block_has(&self.by_node[node.0 as usize], tolls, cost)
     }
-}
-
-/// Whether one of the labels has no toll outside the set, and a cost not above this one.
-fn has_no_worse(labels: &[Label], tolls: TollSet, cost: u64) -> bool
-    ensures { result ≡ list_any (λ l. is_no_worse l tolls cost) labels.now }
-{
-    labels.iter().any(|l| is_no_worse(*l, tolls, cost))
-}
-
-/// Whether the label has no toll outside the set, and a cost not above.
-fn is_no_worse(label: Label, tolls: TollSet, cost: u64) -> bool
-    ensures { result ≡ is_no_worse label tolls cost }
-{
-    label.cost <= cost && label.tolls.is_within(tolls)
 }

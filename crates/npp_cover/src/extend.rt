@@ -35,7 +35,7 @@ fn with_arc(instance: &Instance, tolls: TollSet, arc: ArcId) -> TollSet
 }
 
 /// Whether the arc is a toll arc that the set has.
-pub(crate) fn has_arc(instance: &Instance, tolls: TollSet, arc: ArcId) -> bool
+pub fn has_arc(instance: &Instance, tolls: TollSet, arc: ArcId) -> bool
     requires network { IsNetwork instance.now }
     requires in_range { arc.0 < length instance.now.arcs }
     ensures { result ≡ has_arc instance.now.arcs tolls arc }

@@ -3,6 +3,7 @@
 //! that is cheapest too and pays the same.
 #![tactic(auto)]
 
+mod blocks;
 mod check;
 mod closed;
 mod commodity;
@@ -13,6 +14,7 @@ mod fault;
 mod free;
 mod growing;
 mod label;
+mod needed;
 mod path;
 mod paths;
 mod rank;
@@ -21,10 +23,11 @@ mod steps;
 mod tests;
 
 pub use check::check_cover;
-pub use cover::Cover;
+pub use cover::{Cover, CoverPlan};
 pub use dominance::DominanceTable;
-pub use extend::{can_win, label_after};
+pub use extend::{can_win, has_arc, label_after};
 pub use fault::CoverFault;
 pub use growing::GrowingDraft;
 pub use label::{CoverDraft, Label, StepDraft};
+pub use needed::{NeededArc, NeededArcs};
 pub use path::UsefulPath;

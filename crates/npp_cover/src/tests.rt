@@ -247,3 +247,20 @@ fn paths_stand_in_their_order(rt: HostRuntime) -> Result<(), Fail> {
     assert_eq!(rt; labels[1].tolls, TollSet::empty().with(TollId(1)));
     Ok(())
 }
+
+/// Two toll-free arcs to node 1, of which the first is dearer and so not needed, and a toll arc on from there.
+#[test]
+fn the_first_open_arc_may_be_one_that_is_not_needed(rt: HostRuntime) -> Result<(), Fail> {
+    let alloc = rt.alloc();
+    let arcs = [
+        arc(0, 2, 10, false),
+        arc(0, 1, 2, false),
+        arc(0, 1, 1, false),
+        arc(1, 2, 1, true),
+    ];
+    let net = network(alloc, 3, &arcs)?;
+    let first = CoverFault::NotClosed(0, ArcId(1));
+    assert_eq!(rt; fault(alloc, &net, true, &[]), Some(first));
+    assert_eq!(rt; fault(alloc, &net, true, &[(0, 2), (1, 3)]), None);
+    Ok(())
+}

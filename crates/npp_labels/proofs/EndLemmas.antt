@@ -1,5 +1,5 @@
 -- What is known when no label is left to take: the labels are all useful ones.
-use Rattle.std.proofs.Common.{◌≡◌, inl, inr, ℕ, ◌+◌, ◌<◌, true, false, List, [], ◌++◌, length, Option, sym, ◌∙◌, subst, arith, Contains}
+use Rattle.std.proofs.Common.{◌≡◌, inl, inr, ℕ, ◌+◌, ◌<◌, true, false, List, [], ◌++◌, length, Option, sym, ◌∙◌, subst, arith}
 use Rattle.std.proofs.lemmas.Bool.{false≢true}
 use Rattle.npp_net.specs.declared.types.ArcId.{ArcId}
 use Rattle.npp_net.specs.declared.types.Commodity.{Commodity}
@@ -15,10 +15,12 @@ use Rattle.npp_cover.proofs.ClosureLemmas.{head_within}
 use Rattle.npp_cover.proofs.FaultLemmas.{below_by}
 use Rattle.npp_labels.specs.declared.pending.Pending.{Pending}
 use Rattle.npp_labels.specs.Useful.{IsAs}
-use Rattle.npp_labels.specs.Search.{IsPending, AllDominated, AreFound}
+use Rattle.npp_cover.specs.Needed.{NeededValue, AreNeeded}
+use Rattle.npp_labels.specs.Search.{AreWaiting, AreFound}
+use Rattle.npp_labels.proofs.BehindLemmas.{front}
 use Rattle.npp_labels.proofs.ChainLemmas.{simple_walks}
 use Rattle.npp_labels.proofs.FrontierLemmas.{IsFrontier, pair_meets, walk_append, cost_append}
-use Rattle.npp_labels.proofs.Searching.{IsSearching, pair_of, first_start, walk_node, least_there, dominated_as}
+use Rattle.npp_labels.proofs.Searching.{IsSearching, pair_of, first_start, walk_node, least_there}
 
 module _ (net : Network) (limits : IsNetwork net) (k : Commodity) (ends : IsCommodity net.nodes k) (span : Span) (onward : ℕ → Option ℕ)
     (distances : (v : ℕ) → v < net.nodes → IsDistance net.arcs true v k.destination.0 (onward v)) where
@@ -49,25 +51,20 @@ module _ (net : Network) (limits : IsNetwork net) (k : Commodity) (ends : IsComm
         simple = λ i lt. absurd (omega arith);
       }
 
-  module _ (labels : List Label) (pending : List Pending) (known : IsSearching net k span.free onward labels pending) (none : AllDominated labels pending) where
+  module _ (needed : NeededValue) (known_needed : AreNeeded net.arcs onward span.free net.nodes needed) (labels : List Label) (pending : List Pending)
+      (known : IsSearching net k span.free onward needed labels pending) (none : AreWaiting net.arcs onward span.free needed labels (length labels) []) where
     heads_of : (a : ArcId) → a.0 < length net.arcs → (arc_at net.arcs a).head.0 < net.nodes
     heads_of a lt = head_within net a limits lt
 
-    front_end : IsFrontier net.arcs k span.free labels []
-    front_end i a lt arc tail wins = elim (known.frontier i a lt arc tail wins) [
-      | inl found ↦ inl found
-      | inr waits ↦ inl (dominated_as net.arcs onward span.free labels labels waits.0 i a (known.valid waits.0 waits.1) waits.2 waits.3 (none waits.0 waits.1))
-    ]
-
-    valid_end : (q : Pending) → Contains {X = Pending} [] q → IsPending net.arcs onward span.free labels q
-    valid_end q h = absurd (omega (arith, h.1))
+    front_end : IsFrontier net.arcs k span.free onward labels []
+    front_end = front net limits k span.free onward distances needed known_needed labels known.good [] none
 
     closed_end : (i : ℕ) (a : ArcId) → i < length labels → a.0 < length net.arcs → (arc_at net.arcs a).tail.0 ≡ (label_at labels i).node.0
         → CanWin net.arcs k span.free (arc_at net.arcs a).head.0 ((label_at labels i).cost + (arc_at net.arcs a).cost)
         → IsDominated labels (arc_at net.arcs a).head.0 (with_arc net.arcs (label_at labels i).tolls a) ((label_at labels i).cost + (arc_at net.arcs a).cost)
     closed_end i a lt arc tail wins = elim (front_end i a lt arc tail wins) [
       | inl found ↦ found
-      | inr waits ↦ absurd (omega (arith, waits.1.1))
+      | inr waits ↦ absurd (omega (arith, waits.2.1.1))
     ]
 
     -- a label at the node of a useful pair that dominates it is that pair
@@ -83,10 +80,10 @@ module _ (net : Network) (limits : IsNetwork net) (k : Commodity) (ends : IsComm
         let is = u.pair.1 in
         let node = walk_node net v k.destination.0 is.wins.0 limits ends.destination is.wins.1 in
         let there = least_there net.arcs v k.destination.0 (onward v) is.wins.0 (distances v node) is.wins.1 in
-        elim (pair_meets net.arcs net.nodes heads_of k span.free onward distances labels [] front_end valid_end v s c there.0 known.some
+        elim (pair_meets net.arcs net.nodes heads_of k span.free onward distances labels [] front_end v s c there.0 known.some
         (first_start net k span.free labels known.good known.some) u.pair there.1) [
           | inl found ↦ (found.0, found.1.in_range, same_pair v s c found.0 u found.1)
-          | inr ahead ↦ absurd (omega (arith, ahead.1.waits.1))
+          | inr ahead ↦ absurd (omega (arith, ahead.2.waits.1.1))
         ]
 
     apart : (i j : ℕ) → i < length labels → j < i → (label_at labels j).node.0 ≡ (label_at labels i).node.0

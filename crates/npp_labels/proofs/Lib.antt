@@ -1,8 +1,10 @@
 pub mod OrderLemmas
 pub mod SizeLemmas
-pub mod StepLemmas
+pub mod PendingLemmas
+pub mod WaitLemmas
 pub mod ChainLemmas
 pub mod FrontierLemmas
+pub mod BehindLemmas
 pub mod Searching
 pub mod StartLemmas
 pub mod TakenLemmas

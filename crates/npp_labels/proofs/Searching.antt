@@ -1,6 +1,6 @@
--- What is known while labels are taken: each of them is useful, and each extension is dominated or waits.
-use Rattle.std.proofs.Common.{◌≡◌, inl, inr, ℕ, ◌+◌, ◌<◌, ◌≤◌, Bool, true, false, cond, List, [], ◌∷◌, length, Option, Some, None, MatchOption, sym, ◌∙◌, ap, subst, arith, nat_lt, bit_or, ◌^◌, Contains}
-use Rattle.std.proofs.lemmas.Bool.{cases_eq, false≢true}
+-- What is known while labels are taken: each of them is useful, and each needed arc was tried or waits.
+use Rattle.std.proofs.Common.{◌≡◌, ℕ, ◌<◌, ◌≤◌, true, false, List, [], ◌∷◌, length, Option, Some, None, MatchOption, sym, ◌∙◌, arith, nat_lt}
+use Rattle.std.proofs.lemmas.Bool.{false≢true}
 use Rattle.std.proofs.lemmas.Bool.Decides.{nat_tests}
 use Rattle.std.proofs.lemmas.Nat.Bits.{bit_at-lt}
 use Rattle.std.specs.Int.{bit_at}
@@ -8,32 +8,29 @@ use Rattle.npp_net.specs.declared.types.ArcId.{ArcId}
 use Rattle.npp_net.specs.declared.types.NodeId.{NodeId}
 use Rattle.npp_net.specs.declared.types.NetArc.{NetArc}
 use Rattle.npp_net.specs.declared.types.Commodity.{Commodity}
-use Rattle.npp_net.specs.Network.{Network, IsNetwork, arc_at, no_arc, toll_number}
+use Rattle.npp_net.specs.Network.{Network, IsNetwork, no_arc}
 use Rattle.npp_net.specs.Walk.{IsWalk, walk_tolls}
 use Rattle.npp_net.specs.Distance.{IsLeast, IsDistance}
-use Rattle.npp_net.specs.TollSets.{Has}
 use Rattle.npp_cover.specs.declared.label.Label.{Label}
-use Rattle.npp_cover.specs.Labels.{label_at, with_arc, start_label}
+use Rattle.npp_cover.specs.Labels.{label_at, start_label}
 use Rattle.npp_cover.specs.Useful.{IsPairAt}
 use Rattle.npp_cover.specs.Fault.{is_dominated}
 use Rattle.npp_cover.specs.Closed.{GoesBy, IsDominated, AreFaultless}
 use Rattle.npp_cover.specs.Paths.{walk_of}
-use Rattle.npp_cover.proofs.SetLemmas.{with_same, with_other}
 use Rattle.npp_cover.proofs.ClosureLemmas.{test_of_dominated}
 use Rattle.npp_cover.proofs.TreeLemmas.{label_walk}
 use Rattle.npp_cover.proofs.ReplaceLemmas.{all_usable}
 use Rattle.npp_labels.specs.declared.pending.Pending.{Pending}
 use Rattle.npp_labels.specs.Useful.{AreUseful}
-use Rattle.npp_labels.specs.Search.{IsPending, arc_of}
-use Rattle.npp_labels.proofs.FrontierLemmas.{IsFrontier}
+use Rattle.npp_cover.specs.Needed.{NeededValue}
+use Rattle.npp_labels.specs.Search.{AreWaiting}
 
-pub record IsSearching (net : Network) (k : Commodity) (free : ℕ) (onward : ℕ → Option ℕ) (labels : List Label) (pending : List Pending) : Type 0 where
+pub record IsSearching (net : Network) (k : Commodity) (free : ℕ) (onward : ℕ → Option ℕ) (needed : NeededValue) (labels : List Label) (pending : List Pending) : Type 0 where
   pub good : AreFaultless net k free labels
   pub some : 0 < length labels
   pub few : length labels ≤ 65536
   pub useful : AreUseful net.arcs k free labels
-  pub valid : (q : Pending) → Contains pending q → IsPending net.arcs onward free labels q
-  pub frontier : IsFrontier net.arcs k free labels pending
+  pub waiting : AreWaiting net.arcs onward free needed labels (length labels) pending
 
 pub not_dominated : (labels : List Label) (v s c : ℕ) → is_dominated labels v s c ≡ false → IsDominated labels v s c → ⊥
 not_dominated labels v s c none found = false≢true (sym none ∙ test_of_dominated labels v s c found)
@@ -73,29 +70,5 @@ pub least_there : (arcs : List NetArc) (v d : ℕ) (o : Option ℕ) (walk : List
 least_there arcs v d None walk distance path = absurd (distance walk (record { path = path; usable = all_usable arcs walk }))
 least_there arcs v d (Some least) walk distance path = (least, distance)
 
-keeps_by : (t : Bool) (s n b : ℕ) → Has s b → Has (cond t (bit_or s (2 ^ n)) s) b
-keeps_by true s n b has = elim (cases_eq b n) [
-  | inl e ↦ ap (λ (m : ℕ). bit_at (bit_or s (2 ^ n)) m) e ∙ with_same s n
-  | inr ne ↦ with_other s n b ne ∙ has
-]
-keeps_by false s n b has = has
-
--- a toll stays in the set
-pub keeps_tolls : (arcs : List NetArc) (s : ℕ) (a : ArcId) (b : ℕ) → Has s b → Has (with_arc arcs s a) b
-keeps_tolls arcs s a b has = keeps_by (arc_at arcs a).toll s (toll_number arcs a) b has
-
 pub test_of_lt : (m n : ℕ) → m < n → nat_lt m n ≡ true
 test_of_lt m n lt = grind (arith, nat_tests)
-
--- one that waits is the extension by its arc
-pub dominated_as : (arcs : List NetArc) (onward : ℕ → Option ℕ) (free : ℕ) (labels all : List Label) (q : Pending) (i : ℕ) (a : ArcId) → IsPending arcs onward free labels q
-    → q.parent ≡ i → q.arc ≡ a.0 → IsDominated all q.node q.set q.cost
-    → IsDominated all (arc_at arcs a).head.0 (with_arc arcs (label_at labels i).tolls a) ((label_at labels i).cost + (arc_at arcs a).cost)
-dominated_as arcs onward free labels all q i a is parent arc found =
-    let same_arc : arc_of q ≡ a = ap (λ (m : ℕ). (let b : ArcId = record { 0 = m } in b)) arc in
-    let same_from : label_at labels q.parent ≡ label_at labels i = ap (λ (m : ℕ). label_at labels m) parent in
-    subst (λ (x : Label). IsDominated all (arc_at arcs a).head.0 (with_arc arcs x.tolls a) (x.cost + (arc_at arcs a).cost)) same_from
-    (subst (λ (b : ArcId). IsDominated all (arc_at arcs b).head.0 (with_arc arcs (label_at labels q.parent).tolls b) ((label_at labels q.parent).cost + (arc_at arcs b).cost)) same_arc
-    (subst (λ (v : ℕ). IsDominated all v (with_arc arcs (label_at labels q.parent).tolls (arc_of q)) ((label_at labels q.parent).cost + (arc_at arcs (arc_of q)).cost)) is.extends.node
-    (subst (λ (s : ℕ). IsDominated all q.node s ((label_at labels q.parent).cost + (arc_at arcs (arc_of q)).cost)) is.extends.set
-    (subst (λ (c : ℕ). IsDominated all q.node q.set c) is.extends.cost found))))

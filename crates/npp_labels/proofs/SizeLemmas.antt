@@ -1,8 +1,9 @@
 -- The size of a set of tolls: a set within another has no more, and with as many it is the other.
-use Rattle.std.proofs.Common.{◌≡◌, ℕ, zero, suc, ◌+◌, ◌/◌, ◌%◌, ◌<◌, ◌≤◌, refl, sym, ◌∙◌, ap, subst, arith}
-use Rattle.std.proofs.lemmas.Nat.Bits.{bit_at_lowest, bit_at-suc}
+use Rattle.std.proofs.Common.{◌≡◌, ◌≢◌, ℕ, zero, suc, ◌+◌, ◌/◌, ◌%◌, ◌<◌, ◌≤◌, refl, sym, ◌∙◌, ap, subst, arith}
+use Rattle.std.proofs.lemmas.Nat.Bits.{bit_at_lowest, bit_at-suc, bit_at-zero, same_from_bits}
+use Rattle.std.specs.Int.{bit_at}
 use Rattle.std.specs.Int.Count.{ones_in, ones}
-use Rattle.npp_net.specs.TollSets.{IsWithin, size_of}
+use Rattle.npp_net.specs.TollSets.{Has, IsWithin, size_of}
 
 -- the tolls but the lowest
 within_half : (s t : ℕ) → IsWithin s t → IsWithin (s / 2) (t / 2)
@@ -66,3 +67,31 @@ pub size_same : (s t : ℕ) → IsWithin s t → size_of t ≤ size_of s → s �
 size_same s t h le =
     ones_same (s + t) s t (omega arith) (omega arith) h
     (omega (arith, size_in (s + t) s (omega arith), size_in (s + t) t (omega arith)))
+
+-- ---- one more toll
+
+-- a set with one more toll
+pub record HasOneMore (s t n : ℕ) : Type 0 where
+  pub new : bit_at s n ≡ 0
+  pub has : Has t n
+  pub others : (b : ℕ) → b ≢ n → bit_at t b ≡ bit_at s b
+
+half_more : (s t n : ℕ) → HasOneMore s t (suc n) → HasOneMore (s / 2) (t / 2) n
+half_more s t n more = record {
+  new = sym (bit_at-suc s n) ∙ more.new;
+  has = sym (bit_at-suc t n) ∙ more.has;
+  others = λ b ne. sym (bit_at-suc t b) ∙ (more.others (suc b) (λ e. ne (omega arith)) ∙ bit_at-suc s b);
+}
+
+ones_more : (k s t n : ℕ) → s ≤ k → t ≤ k → HasOneMore s t n → ones_in k t ≡ ones_in k s + 1
+ones_more zero s t n ls lt more = absurd (omega (arith, more.has, bit_at-zero n, ap (λ (x : ℕ). bit_at x n) (let e : t ≡ 0 = omega arith in e)))
+ones_more (suc k) s t zero ls lt more =
+    let halves : t / 2 ≡ s / 2 = same_from_bits (t / 2) (s / 2) (λ b. sym (bit_at-suc t b) ∙ (more.others (suc b) (λ e. omega arith) ∙ bit_at-suc s b)) in
+    omega (arith, ones_in-suc k s, ones_in-suc k t, ap (λ (x : ℕ). ones_in k x) halves, bit_at_lowest s, bit_at_lowest t, more.new, more.has)
+ones_more (suc k) s t (suc n) ls lt more =
+    omega (arith, ones_in-suc k s, ones_in-suc k t, ones_more k (s / 2) (t / 2) n (omega arith) (omega arith) (half_more s t n more), bit_at_lowest s, bit_at_lowest t, more.others 0 (λ e. omega arith))
+
+-- it has one toll more
+pub size_more : (s t n : ℕ) → HasOneMore s t n → size_of t ≡ size_of s + 1
+size_more s t n more =
+    omega (arith, size_in (s + t) s (omega arith), size_in (s + t) t (omega arith), ones_more (s + t) s t n (omega arith) (omega arith) more)

@@ -1,20 +1,21 @@
 -- What is known when the start is taken.
-use Rattle.std.proofs.Common.{◌≡◌, inl, inr, ℕ, ◌+◌, ◌<◌, ◌≤◌, Bool, true, cond, List, [], ◌∷◌, Option, Some, None, refl, sym, ◌∙◌, ap, subst, arith}
+use Rattle.std.proofs.Common.{◌≡◌, ℕ, ◌+◌, ◌<◌, ◌≤◌, Bool, true, cond, List, [], ◌∷◌, length, Option, Some, None, refl, sym, ◌∙◌, ap, subst, arith}
 use Rattle.std.proofs.lemmas.Nat.Bits.{bit_at-zero}
 use Rattle.std.specs.Int.{bit_at}
 use Rattle.npp_cover.specs.declared.fault.CoverFault.TheVariants.{Useless}
 use Rattle.npp_net.specs.declared.types.Commodity.{Commodity}
-use Rattle.npp_net.specs.Network.{Network, IsNetwork, IsCommodity, arc_at}
+use Rattle.npp_net.specs.Network.{Network, IsNetwork, IsCommodity}
 use Rattle.npp_net.specs.Distance.{IsDistance}
 use Rattle.npp_net.specs.TollSets.{IsWithin}
 use Rattle.npp_cover.specs.declared.label.Label.{Label}
 use Rattle.npp_cover.specs.Labels.{label_at, start_label}
 use Rattle.npp_cover.specs.Useful.{CanWin, IsUsefulLabel}
 use Rattle.npp_cover.specs.Fault.{can_win}
-use Rattle.npp_cover.proofs.ClosureLemmas.{head_within}
-use Rattle.npp_cover.proofs.FaultLemmas.{faultless_first, wins_by, below_by}
+use Rattle.npp_cover.proofs.FaultLemmas.{faultless_first, wins_by}
 use Rattle.npp_labels.specs.declared.pending.Pending.{Pending}
-use Rattle.npp_labels.specs.Search.{AddsExtensions, Waits}
+use Rattle.npp_cover.specs.Needed.{NeededValue}
+use Rattle.npp_labels.specs.Search.{Advances, AreWaiting, ways_of}
+use Rattle.npp_labels.proofs.WaitLemmas.{waiting_one_more}
 use Rattle.npp_labels.proofs.SizeLemmas.{size_le, size_same}
 use Rattle.npp_labels.proofs.Searching.{IsSearching}
 
@@ -35,9 +36,10 @@ module _ (net : Network) (limits : IsNetwork net) (k : Commodity) (ends : IsComm
     minimal = λ s c pair up. (nothing_within s up.within, omega (arith, up.cheaper));
   }
 
-  pub searching_start : (pending : List Pending) → can_win onward free k.origin.0 0 ≡ true
-      → AddsExtensions net.arcs onward free (start_label k.origin ∷ []) 0 [] pending → IsSearching net k free onward (start_label k.origin ∷ []) pending
-  searching_start pending can_start adds =
+  pub searching_start : (needed : NeededValue) (pending : List Pending) → can_win onward free k.origin.0 0 ≡ true
+      → Advances net.arcs onward free needed (start_label k.origin ∷ []) 0 (length (ways_of needed (start_label k.origin ∷ []) 0)) [] pending
+      → IsSearching net k free onward needed (start_label k.origin ∷ []) pending
+  searching_start needed pending can_start adv =
       let start : List Label = start_label k.origin ∷ [] in
       let wins = wins_by net.arcs k free k.origin.0 0 (onward k.origin.0) (distances k.origin.0 ends.origin) can_start in
       record {
@@ -48,14 +50,7 @@ module _ (net : Network) (limits : IsNetwork net) (k : Commodity) (ends : IsComm
           each = λ i lt. subst (λ (j : ℕ). IsUsefulLabel net.arcs k free (label_at start j).node.0 (label_at start j).tolls (label_at start j).cost) (sym (first_only i lt)) (start_useful wins);
           once = λ i j li lj same. first_only i li ∙ sym (first_only j lj);
         };
-        valid = λ q h. elim (adds.added q h) [
-          | inl none ↦ absurd (omega (arith, none.1))
-          | inr is ↦ is
-        ];
-        frontier = λ i a lt arc tail wins'.
-            inr (subst (λ (j : ℕ). Waits pending j a) (sym (first_only i lt))
-            (adds.waits a arc (tail ∙ ap (λ (j : ℕ). (label_at start j).node.0) (first_only i lt))
-            (below_by net.arcs k free (arc_at net.arcs a).head.0 ((label_at start 0).cost + (arc_at net.arcs a).cost) (onward (arc_at net.arcs a).head.0)
-            (distances (arc_at net.arcs a).head.0 (head_within net a limits arc))
-            (subst (λ (j : ℕ). CanWin net.arcs k free (arc_at net.arcs a).head.0 ((label_at start j).cost + (arc_at net.arcs a).cost)) (first_only i lt) wins'))));
+        waiting = subst (λ (n : ℕ). AreWaiting net.arcs onward free needed start n pending) (let e : 0 + 1 ≡ 1 = omega arith in e)
+            (waiting_one_more net.arcs onward free needed start 0 [] pending
+            (record { each = λ q h. absurd (omega (arith, h.1)); tried = λ i j lt within. absurd (omega arith) }) adv);
       }

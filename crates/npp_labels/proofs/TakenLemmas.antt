@@ -1,5 +1,5 @@
 -- The label that is taken is useful, and none of the labels before it is the same.
-use Rattle.std.proofs.Common.{◌≡◌, inl, inr, ℕ, ◌+◌, ◌<◌, true, List, [], ◌∷◌, ◌++◌, length, Option, Some, refl, sym, ◌∙◌, ap, subst, arith, nat_lt, Contains}
+use Rattle.std.proofs.Common.{◌≡◌, inl, inr, ℕ, ◌+◌, ◌<◌, true, false, List, [], ◌∷◌, ◌++◌, length, Option, Some, refl, sym, ◌∙◌, ap, subst, arith, nat_lt, Contains}
 use Rattle.std.proofs.lemmas.Bool.{cases_eq}
 use Rattle.std.proofs.lemmas.List.{length-append}
 use Rattle.std.specs.Int.{bit_at}
@@ -10,32 +10,42 @@ use Rattle.npp_net.specs.TollSets.{size_of}
 use Rattle.npp_cover.specs.declared.label.Label.{Label}
 use Rattle.npp_cover.specs.Labels.{label_at}
 use Rattle.npp_cover.specs.Useful.{CanWin, IsPairAt, Dominates, IsUsefulLabel}
-use Rattle.npp_cover.specs.Fault.{is_below}
+use Rattle.npp_cover.specs.Fault.{is_below, is_dominated}
+use Rattle.npp_cover.specs.Needed.{NeededValue, AreNeeded}
 use Rattle.npp_cover.specs.Closed.{GoesBy, IsDominated, AreFaultless}
 use Rattle.npp_cover.proofs.ClosureLemmas.{head_within}
 use Rattle.npp_cover.proofs.FaultLemmas.{faultless_more, by_place, before, at_end, wins_by}
 use Rattle.npp_labels.specs.declared.pending.Pending.{Pending}
 use Rattle.npp_labels.specs.Order.{IsNoLater}
 use Rattle.npp_labels.specs.Useful.{IsAs, AreUseful}
-use Rattle.npp_labels.specs.Search.{IsPending, Takes, arc_of, label_of}
+use Rattle.npp_labels.specs.declared.pending.Taken.{Taken}
+use Rattle.npp_labels.specs.Search.{IsPending, TakesFirst, arc_of, label_of}
 use Rattle.npp_labels.proofs.SizeLemmas.{size_le, size_same}
-use Rattle.npp_labels.proofs.StepLemmas.{contains_first, contains_later, contains_cases}
+use Rattle.npp_labels.proofs.PendingLemmas.{contains_first, contains_cases}
+use Rattle.npp_labels.proofs.BehindLemmas.{front}
 use Rattle.npp_labels.proofs.ChainLemmas.{then_up, fresh_by}
 use Rattle.npp_labels.proofs.FrontierLemmas.{IsFrontier, pair_meets}
-use Rattle.npp_labels.proofs.Searching.{IsSearching, not_dominated, pair_of, first_start, keeps_tolls, test_of_lt, dominated_as}
+use Rattle.npp_labels.proofs.Searching.{IsSearching, not_dominated, pair_of, first_start, test_of_lt}
+use Rattle.npp_cover.proofs.StandLemmas.{keeps_tolls}
 
 module _ (net : Network) (limits : IsNetwork net) (k : Commodity) (ends : IsCommodity net.nodes k) (free : ℕ) (onward : ℕ → Option ℕ)
     (distances : (v : ℕ) → v < net.nodes → IsDistance net.arcs true v k.destination.0 (onward v))
-    (labels : List Label) (old new : List Pending) (p : Pending) (known : IsSearching net k free onward labels old)
-    (takes : Takes net.arcs labels old new (label_of net.arcs labels p) p) where
+    (needed : NeededValue) (known_needed : AreNeeded net.arcs onward free net.nodes needed)
+    (labels : List Label) (old new : List Pending) (t : Taken) (known : IsSearching net k free onward needed labels old)
+    (takes : TakesFirst net.arcs onward free needed labels new t) where
+  abbrev pub p : Pending
+  p = t.waited
+
   abbrev pub l : Label
   l = label_of net.arcs labels p
 
   valid_p : IsPending net.arcs onward free labels p
-  valid_p = known.valid p takes.was
+  valid_p = (takes.waiting.each p (contains_first p new)).pending
 
   none_dominates : IsDominated labels l.node.0 l.tolls l.cost → ⊥
-  none_dominates found = not_dominated labels l.node.0 l.tolls l.cost takes.free found
+  none_dominates found =
+      not_dominated labels l.node.0 l.tolls l.cost
+      (subst (λ (x : Label). is_dominated labels x.node.0 x.tolls x.cost ≡ false) takes.label takes.undominated) found
 
   parent_range : p.parent < length labels
   parent_range = valid_p.parent
@@ -93,33 +103,18 @@ module _ (net : Network) (limits : IsNetwork net) (k : Commodity) (ends : IsComm
   count_all : length all ≡ length labels + 1
   count_all = length-append labels (l ∷ [])
 
-  valid_rest : (q : Pending) → Contains (p ∷ new) q → IsPending net.arcs onward free labels q
-  valid_rest q h = elim (contains_cases p q new h) [
-    | inl e ↦ subst (λ (x : Pending). IsPending net.arcs onward free labels x) (sym e) valid_p
-    | inr h' ↦ known.valid q (takes.kept q h')
-  ]
-
   no_later : (q : Pending) → Contains (p ∷ new) q → IsNoLater p q
   no_later q h = elim (contains_cases p q new h) [
     | inl e ↦ subst (λ (x : Pending). IsNoLater p x) (sym e) (record { bound = omega arith; size = λ same. omega arith })
-    | inr h' ↦ takes.first q h'
+    | inr h' ↦ subst (λ (x : Pending). IsNoLater p x) h'.2 (takes.first h'.0 q h'.1)
   ]
 
-  front_rest : IsFrontier net.arcs k free labels (p ∷ new)
-  front_rest i a lt arc tail wins = elim (known.frontier i a lt arc tail wins) [
-    | inl found ↦ inl found
-    | inr waits ↦ elim (takes.others waits.0 waits.1) [
-      | inl found ↦ inl (dominated_as net.arcs onward free labels labels waits.0 i a (known.valid waits.0 waits.1) waits.2 waits.3 found)
-      | inr still ↦ elim still [
-        | inl e ↦ inr (waits.0, subst (λ (x : Pending). Contains {X = Pending} (p ∷ new) x) (sym e) (contains_first p new), waits.2, waits.3)
-        | inr h ↦ inr (waits.0, contains_later p waits.0 new h, waits.2, waits.3)
-      ]
-    ]
-  ]
+  front_rest : IsFrontier net.arcs k free onward labels (p ∷ new)
+  front_rest = front net limits k free onward distances needed known_needed labels known.good (p ∷ new) takes.waiting
 
   minimal_l : (s c : ℕ) → IsPairAt net.arcs k free l.node.0 s c → Dominates s c l.tolls l.cost → (s ≡ l.tolls) × (c ≡ l.cost)
   minimal_l s c pair up =
-      elim (pair_meets net.arcs net.nodes (λ a lt. head_within net a limits lt) k free onward distances labels (p ∷ new) front_rest valid_rest l.node.0 s c more known.some
+      elim (pair_meets net.arcs net.nodes (λ a lt. head_within net a limits lt) k free onward distances labels (p ∷ new) front_rest l.node.0 s c more known.some
       (first_start net k free labels known.good known.some) pair least_l) [
         | inl found ↦ absurd (none_dominates (
           found.0,
@@ -130,14 +125,14 @@ module _ (net : Network) (limits : IsNetwork net) (k : Commodity) (ends : IsComm
           },
         ))
         | inr ahead ↦
-            let q : Pending = ahead.0 in
-            let later = no_later q ahead.1.waits in
-            let even : p.bound ≡ q.bound = omega (arith, later.bound, ahead.1.bound, bound_l, up.cheaper) in
-            let size = later.size even in
-            let size_p : p.size ≡ size_of l.tolls = valid_p.extends.size ∙ ap (λ (n : ℕ). size_of n) valid_p.extends.set in
-            let size_q = (valid_rest q ahead.1.waits).extends.size in (
-              size_same s l.tolls up.within (omega (arith, size, size_p, size_q, size_le q.set s ahead.1.within)),
-              omega (arith, later.bound, ahead.1.bound, bound_l, up.cheaper),
+            let before' = ahead.2 in
+            let behind = before'.waits.2 in
+            let later = no_later before'.waits.0 before'.waits.1 in
+            let even : p.bound ≡ before'.waits.0.bound = omega (arith, later.bound, behind.bound, before'.most, bound_l, up.cheaper) in
+            let even' : before'.waits.0.bound ≡ ahead.0 = omega (arith, later.bound, behind.bound, before'.most, bound_l, up.cheaper) in
+            let size_p : p.size ≡ size_of l.tolls = valid_p.extends.size ∙ ap (λ (n : ℕ). size_of n) valid_p.extends.set in (
+              size_same s l.tolls up.within (omega (arith, later.size even, behind.size even', size_p, size_le ahead.1 s before'.within)),
+              omega (arith, later.bound, behind.bound, before'.most, bound_l, up.cheaper),
             )
       ]
 

@@ -17,7 +17,7 @@ key_cmp x y =
     (ordering_then (nat_cmp y.0.cost x.0.cost)
     (ordering_then (nat_cmp y.0.node x.0.node)
     (ordering_then (nat_cmp y.0.set x.0.set)
-    (ordering_then (nat_cmp y.0.parent x.0.parent) (nat_cmp y.0.arc x.0.arc))))))
+    (ordering_then (nat_cmp y.0.parent x.0.parent) (ordering_then (nat_cmp y.0.arc x.0.arc) (nat_cmp y.0.left x.0.left)))))))
 
 -- a lower bound, or the same and no more tolls
 pub record IsNoLater (p q : Pending) : Type 0 where

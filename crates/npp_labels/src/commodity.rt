@@ -13,7 +13,7 @@ ghost use Rattle.npp_labels.specs.Covers.{AreSimple};
 
 use crate::best_first::search;
 use crate::refusal::LabelRefusal;
-use npp_cover::Cover;
+use npp_cover::{Cover, CoverPlan};
 use npp_net::{Commodity, Instance, Memory, Span, Walk};
 use npp_short::{Potentials, distances_to, walk_from};
 use std::alloc::Global;
@@ -40,10 +40,32 @@ pub fn useful(
     ensures refused { IfErr result (λ e. (e ≡ LabelRefusal.Memory)
         ⊎ ((e ≡ LabelRefusal.TooManyLabels) × HasTooMany instance.now.arcs (commodity_at instance.now k) span.free)) }
 {
+    let plan = plan_of(alloc, instance, k, span, potentials)?;
+    Ok(plan.into_cover(alloc)?)
+}
+
+/// The same before the walks of its paths are built.
+pub fn plan_of(
+    alloc: Global,
+    instance: &Instance,
+    k: u32,
+    span: Span,
+    potentials: &Potentials,
+) -> Result<CoverPlan, LabelRefusal>
+    requires k { k < length instance.now.commodities }
+    requires span { IsSpan instance.now.arcs (commodity_at instance.now k) span }
+    requires potentials { AreDistances instance.now.arcs true instance.now.nodes (commodity_at instance.now k).destination.0 potentials.now }
+    ensures labels { IfOk result (λ c. AreTheUseful instance.now.arcs (commodity_at instance.now k) span.free c.labels) }
+    ensures few { IfOk result (λ _. HasTooMany instance.now.arcs (commodity_at instance.now k) span.free → ⊥) }
+    ensures cover { IfOk result (IsCoverOf instance.now.arcs (commodity_at instance.now k) span) }
+    ensures simple { IfOk result (AreSimple instance.now.arcs (commodity_at instance.now k).origin.0) }
+    ensures refused { IfErr result (λ e. (e ≡ LabelRefusal.Memory)
+        ⊎ ((e ≡ LabelRefusal.TooManyLabels) × HasTooMany instance.now.arcs (commodity_at instance.now k) span.free)) }
+{
     let pair = instance.commodities()[k as usize];
     let labels = search(alloc, instance, potentials, span, pair)?;
     let free = free_walk(alloc, instance, pair)?;
-    Ok(Cover::of_labels(alloc, instance, k, span, labels, free)?)
+    Ok(CoverPlan::of_labels(alloc, instance, k, span, labels, free)?)
 }
 
 /// A toll-free walk of least cost that comes to no node twice.

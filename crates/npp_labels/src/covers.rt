@@ -7,9 +7,9 @@ ghost use Rattle.npp_bounds.specs.Spans.{AreSpans};
 ghost use Rattle.npp_labels.specs.declared.covers.CoversRefusal.{CoversRefusal};
 ghost use Rattle.npp_labels.specs.Covers.{IsUsefulCover, AreUsefulCovers, HasTooManyLabels, IsCoversRefusal, PassesNoLimit, path_total};
 
-use crate::commodity::useful;
+use crate::commodity::plan_of;
 use crate::refusal::LabelRefusal;
-use npp_cover::Cover;
+use npp_cover::{Cover, CoverPlan};
 use npp_net::{Instance, Memory, Span};
 use npp_short::distances_to;
 use std::alloc::{AllocFailed, Global};
@@ -72,18 +72,23 @@ pub fn useful_all(
     let mut covers = Vec::new(alloc);
     let mut paths = 0;
     for k in 0..instance.commodities().len() as u32 {
-        let cover = cover_of(alloc, instance, k, spans[k as usize])?;
-        paths += cover.paths().len();
+        let plan = useful_plan(alloc, instance, k, spans[k as usize])?;
+        paths += plan.path_count();
         if paths > MAX_PATHS {
             return Err(CoversRefusal::TooManyPaths(k));
         }
-        covers.push(cover)?;
+        covers.push(plan.into_cover(alloc)?)?;
     }
     Ok(covers)
 }
 
-/// The useful cover of commodity `k`.
-fn cover_of(alloc: Global, instance: &Instance, k: u32, span: Span) -> Result<Cover, CoversRefusal>
+/// The useful cover of commodity `k`, before the walks of its paths are built.
+fn useful_plan(
+    alloc: Global,
+    instance: &Instance,
+    k: u32,
+    span: Span,
+) -> Result<CoverPlan, CoversRefusal>
     requires k { k < length instance.now.commodities }
     requires span { IsSpan instance.now.arcs (commodity_at instance.now k) span }
     ensures { MatchResult result
@@ -93,8 +98,8 @@ fn cover_of(alloc: Global, instance: &Instance, k: u32, span: Span) -> Result<Co
 {
     let destination = instance.commodities()[k as usize].destination;
     let potentials = distances_to(alloc, instance, destination, true)?;
-    match useful(alloc, instance, k, span, &potentials) {
-        Ok(cover) => Ok(cover),
+    match plan_of(alloc, instance, k, span, &potentials) {
+        Ok(plan) => Ok(plan),
         Err(LabelRefusal::TooManyLabels) => Err(CoversRefusal::TooManyLabels(k)),
         Err(LabelRefusal::Memory) => Err(CoversRefusal::Memory),
     }

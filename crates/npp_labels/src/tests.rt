@@ -223,3 +223,39 @@ fn the_last_of_many_tolls_is_listed(rt: HostRuntime) -> Result<(), Fail> {
     assert!(rt; has_paths(&cover, &[(last, 3, &[ArcId(128)]), (0, 10, &[ArcId(0)])]));
     Ok(())
 }
+
+/// Toll-free arcs to node 1 of which the first is the cheapest, toll arcs there that cost no less than it, and two that cost
+/// less, with a loop.
+#[test]
+fn of_parallel_arcs_the_needed_ones_are_taken(rt: HostRuntime) -> Result<(), Fail> {
+    let alloc = rt.alloc();
+    let arcs = [
+        arc(0, 2, 9, false),
+        arc(0, 1, 3, false),
+        arc(0, 1, 3, false),
+        arc(0, 1, 5, false),
+        arc(0, 1, 3, true),
+        arc(0, 1, 4, true),
+        arc(0, 1, 1, true),
+        arc(0, 1, 1, true),
+        arc(1, 1, 0, false),
+        arc(1, 2, 1, true),
+    ];
+    let cover = first(alloc, &network(alloc, 3, &arcs, &[0])?)?;
+    assert_eq!(rt; cover.labels().len(), 7);
+    let by_first = [ArcId(6), ArcId(9)];
+    let by_second = [ArcId(7), ArcId(9)];
+    let by_free = [ArcId(1), ArcId(9)];
+    assert!(rt;
+        has_paths(
+            &cover,
+            &[
+                (20, 2, &by_first),
+                (24, 2, &by_second),
+                (16, 4, &by_free),
+                (0, 9, &[ArcId(0)]),
+            ]
+        )
+    );
+    Ok(())
+}

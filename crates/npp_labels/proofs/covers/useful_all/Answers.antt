@@ -1,8 +1,8 @@
-use Rattle.std.proofs.Common.{◌≡◌, length, ap, arith}
-use Rattle.std.proofs.lemmas.List.{length-map}
+use Rattle.std.proofs.Common.{◌+◌, ◌++◌, ◌∷◌, [], List, length, ap, sym, ◌∙◌, subst, arith}
+use Rattle.npp_cover.specs.Replaces.{CoverValue}
 use Rattle.npp_net.specs.declared.types.Span.{Span}
 use Rattle.npp_net.specs.Network.{no_commodity}
-use Rattle.npp_labels.proofs.CoverLemmas.{span_at, covers_past, covers_kept, covers_all}
+use Rattle.npp_labels.proofs.CoverLemmas.{HasCovers, span_at, covers_past, covers_kept, covers_all}
 use Rattle.npp_labels.proofs.LimitLemmas.{none_passed}
 use Rattle.npp_labels.proofs.covers.useful_all.Goals as goal
 
@@ -14,25 +14,24 @@ bounds-spans-k c =
     let net = c.args.instance.now in
     (span_at net.arcs net.commodities c.args.spans.now c.loop-k.k no_commodity no_span c.requires (omega (arith, ap length c.commodities.ensures.list))).within
 
-pub cover_of-requires-clause-span : goal.cover_of-requires-clause-span
-cover_of-requires-clause-span c =
+pub useful_plan-requires-clause-span : goal.useful_plan-requires-clause-span
+useful_plan-requires-clause-span c =
     let net = c.args.instance.now in
     (span_at net.arcs net.commodities c.args.spans.now c.loop-k.k no_commodity no_span c.requires (omega (arith, ap length c.commodities.ensures.list))).here
 
 pub returns-then-paths-gt-MAX_PATHS-clause-refused : goal.returns-then-paths-gt-MAX_PATHS-clause-refused
 returns-then-paths-gt-MAX_PATHS-clause-refused c =
     let net = c.args.instance.now in
-    let count : length c.paths.result.now ≡ length c.in_ok-cover.cover.paths = simp length-map at (ap length c.paths.ensures) in
-    covers_past net.arcs net.commodities c.loop-k.k c.loop-k.covers.items c.loop-k.paths no_commodity c.in_ok-cover.cover (length c.paths.result.now)
-    (omega (arith, ap length c.commodities.ensures.list)) count c.in_ok-cover.ensures c.loop-k.invariant c.if-paths-gt-MAX_PATHS.true
+    covers_past net.arcs net.commodities c.loop-k.k c.loop-k.covers.items c.loop-k.paths no_commodity c.in_ok-plan.plan c.path_count.result
+    (omega (arith, ap length c.commodities.ensures.list)) c.path_count.ensures c.in_ok-plan.ensures c.loop-k.invariant c.if-paths-gt-MAX_PATHS.true
 
 pub loop-k-preserved : goal.loop-k-preserved
 loop-k-preserved c =
     let net = c.args.instance.now in
-    let count : length c.paths.result.now ≡ length c.in_ok-cover.cover.paths = simp length-map at (ap length c.paths.ensures) in
-    rw c.in_ok-push.ensures.items
-    (covers_kept net.arcs net.commodities c.loop-k.k c.loop-k.covers.items c.loop-k.paths no_commodity c.in_ok-cover.cover (length c.paths.result.now)
-    (omega (arith, ap length c.commodities.ensures.list)) count c.in_ok-cover.ensures c.loop-k.invariant c.if-paths-gt-MAX_PATHS.false)
+    subst (λ (xs : List CoverValue). HasCovers c.args.instance.now.arcs c.args.instance.now.commodities (c.loop-k.k + 1) xs (c.loop-k.paths + c.path_count.result))
+    (sym (c.in_ok-push.ensures.items ∙ ap (λ (x : CoverValue). c.loop-k.covers.items ++ x ∷ []) c.in_ok-into_cover.ensures))
+    (covers_kept net.arcs net.commodities c.loop-k.k c.loop-k.covers.items c.loop-k.paths no_commodity c.in_ok-plan.plan c.path_count.result
+    (omega (arith, ap length c.commodities.ensures.list)) c.path_count.ensures c.in_ok-plan.ensures c.loop-k.invariant c.if-paths-gt-MAX_PATHS.false)
 
 pub returns-clause-kept : goal.returns-clause-kept
 returns-clause-kept c =

@@ -7,7 +7,7 @@ use Rattle.npp_cover.specs.Useful.{commodity_at}
 use Rattle.npp_labels.specs.Search.{AreFound}
 use Rattle.npp_labels.proofs.CountLemmas.{not_too_many}
 use Rattle.npp_labels.proofs.SimpleLemmas.{AllSimple, simple_paths}
-use Rattle.npp_labels.proofs.commodity.useful.Goals as goal
+use Rattle.npp_labels.proofs.commodity.plan_of.Goals as goal
 
 pub returns-clause-simple : goal.returns-clause-simple
 returns-clause-simple c =
