@@ -1,0 +1,9 @@
+use Rattle.npp_rows.specs.Caps.{path_model}
+use Rattle.npp_rows.proofs.InverseLaws.{inverse_holds}
+use Rattle.npp_rows.proofs.choice.inverse.Goals as goal
+
+pub returns-clause-holds : goal.returns-clause-holds
+returns-clause-holds g c = λ parts same. inverse_holds c.args.instance.now (path_model c.args.instance.now c.args.covers.now) parts
+
+pub returns-in_err-table-clause-holds : goal.returns-in_err-table-clause-holds
+returns-in_err-table-clause-holds g c = λ parts same. inverse_holds c.args.instance.now (path_model c.args.instance.now c.args.covers.now) parts

@@ -1,0 +1,224 @@
+//! The best tolls of a choice: the program over the tolls alone under which the chosen paths are cheapest.
+
+ghost use Rattle.std.specs.Prelude.{◌≡◌, ◌<◌, ◌≤◌, ◌^◌, ◌++◌, ◌==◌, ℕ, pos, negsuc, nat_abs, List, length, map, Some, IfOk, OnOk, if◌then◌else◌};
+ghost use Rattle.std.specs.List.{range_with_len};
+ghost use Rattle.std.specs.Int.{bit_at};
+ghost use Rattle.npp_frac.specs.Rational.{◌-ℚ◌};
+ghost use Rattle.npp_lp.specs.Meaning.{linear_program, terms_of};
+ghost use Rattle.npp_cover.specs.PathValue.{path_value};
+ghost use Rattle.npp_cover.specs.Replaces.{path_at};
+ghost use Rattle.npp_rows.specs.Caps.{path_model};
+ghost use Rattle.npp_rows.specs.Limits.{path_total};
+ghost use Rattle.npp_rows.specs.Lowering.{AreClosedCovers};
+ghost use Rattle.npp_rows.specs.PathModel.{path_count, uses, demand_at, tolls};
+ghost use Rattle.npp_rows.specs.Parts.{chosen, first_choice};
+ghost use Rattle.npp_rows.specs.Promises.{InverseHolds};
+ghost use Rattle.npp_rows.specs.Named.{one_if, terms_from, numbers_from, numbered};
+ghost use Rattle.npp_rows.specs.declared.names.ColumnName.TheVariants.{Toll as toll_column};
+ghost use Rattle.npp_rows.specs.Rows.{IsChoice, IsChoiceRow};
+ghost use Rattle.npp_rows.specs.Inverse.{inverse, choice_rows, choice_entry, choice_right, revenue_goal, payers};
+
+use crate::entries::push_number;
+use crate::names::RowName;
+use crate::row::{toll_set, whole_number};
+use crate::row_feed::feed;
+use crate::row_names::{Single, push_follows, push_singles};
+use crate::table::PathTable;
+use npp_cover::{Cover, UsefulPath};
+use npp_frac::Exact;
+use npp_lp::{Entry, Program, ProgramBuilder};
+use npp_net::{Instance, Memory, TollId, TollSet};
+use std::alloc::Global;
+
+/// The inverse program of a choice, which names one useful path for each commodity.
+///
+/// Its columns are the tolls, from 0 to their caps, and its rows say that each chosen path costs no more than any useful
+/// path of its commodity. Its goal is what the chosen paths pay, each commodity by its demand. The covers are those of the
+/// instance, one for each commodity in order.
+pub fn inverse<N: Exact>(
+    alloc: Global,
+    instance: &Instance,
+    covers: &[Cover],
+    choice: &[u32],
+) -> Result<Program<N>, Memory>
+    requires covers { AreClosedCovers instance.now covers.now }
+    requires few { path_total covers.now ≤ 16777216 }
+    requires choice { IsChoice (path_model instance.now covers.now) choice.now }
+    ensures program { IfOk result (λ p. linear_program N.rational p ≡ numbered (inverse (path_model instance.now covers.now) choice.now)) }
+    ensures holds { (parts : List (List ℕ)) → first_choice parts ≡ choice.now → InverseHolds instance.now (path_model instance.now covers.now) parts }
+{
+    let table = PathTable::new(alloc, instance, covers)?;
+    table.inverse(alloc, choice)
+}
+
+impl PathTable<'_> {
+    /// The inverse program of a choice.
+    pub fn inverse<N: Exact>(&self, alloc: Global, choice: &[u32]) -> Result<Program<N>, Memory>
+        requires { IsChoice self.now choice.now }
+        ensures { IfOk result (λ p. linear_program N.rational p ≡ numbered (inverse self.now choice.now)) }
+    {
+        let mut rows = Vec::new(alloc);
+        push_singles(&mut rows, Single::Caps, self.tolls())?;
+        push_follows(&mut rows, self)?;
+        build(alloc, self, choice, &rows)
+    }
+}
+
+/// The program of the rows of a choice.
+fn build<N: Exact>(
+    alloc: Global,
+    table: &PathTable,
+    choice: &[u32],
+    rows: &[RowName],
+) -> Result<Program<N>, Memory>
+    requires choice { IsChoice table.now choice.now }
+    requires rows { rows.now ≡ choice_rows table.now (λ k. Some (chosen choice.now k)) }
+    ensures { IfOk result (λ p. linear_program N.rational p ≡ numbered (inverse table.now choice.now)) }
+{
+    let mut program = match ProgramBuilder::new(alloc, table.tolls()) {
+        Ok(program) => program,
+        Err(_) => return Err(Memory),
+    };
+    let mut entries = Vec::new(alloc);
+    for row in rows {
+        write_choice_row(table, choice, *row, &mut entries)?;
+        feed(&mut program, &entries, choice_right(table, choice, *row))?;
+    }
+    let goal = choice_goal(alloc, table, choice)?;
+    Ok(program.finish(goal))
+}
+
+/// Writes the entries of a row of the inverse program of a choice.
+fn write_choice_row<N: Exact>(
+    table: &PathTable,
+    choice: &[u32],
+    row: RowName,
+    entries: &mut Vec<Entry<N>>,
+) -> Result<(), Memory>
+    requires choice { IsChoice table.now choice.now }
+    requires row { IsChoiceRow table.now row }
+    ensures { OnOk result (terms_of N.rational entries.new.items
+        ≡ terms_from 0 (choice_entry table.now (λ k. Some (chosen choice.now k)) row) (map toll_column (tolls table.now))) }
+{
+    entries.clear();
+    match row {
+        RowName::Cap(a) => push_number(entries, a, 1),
+        RowName::Follow(k, q) => {
+            let paths = table.paths(k);
+            push_differences(
+                entries,
+                table.tolls(),
+                toll_set(paths, choice[k as usize]),
+                toll_set(paths, q),
+            )
+        }
+        RowName::Below(_, _)
+        | RowName::Use(_, _)
+        | RowName::Link(_, _)
+        | RowName::One(_)
+        | RowName::OneLow(_)
+        | RowName::Cut(_) => Ok(()),
+    }
+}
+
+/// The right side of a row of the inverse program of a choice.
+fn choice_right<N: Exact>(table: &PathTable, choice: &[u32], row: RowName) -> N
+    requires choice { IsChoice table.now choice.now }
+    requires row { IsChoiceRow table.now row }
+    ensures { N.rational result ≡ choice_right table.now (λ k. Some (chosen choice.now k)) row }
+{
+    match row {
+        RowName::Cap(a) => whole_number(table.cap(a)),
+        RowName::Follow(k, q) => {
+            N::of_whole(i64::from(table.cost(k, q)) - i64::from(table.cost(k, choice[k as usize])))
+        }
+        RowName::Below(_, _)
+        | RowName::Use(_, _)
+        | RowName::Link(_, _)
+        | RowName::One(_)
+        | RowName::OneLow(_)
+        | RowName::Cut(_) => N::of_whole(0),
+    }
+}
+
+/// The goal of the inverse program of a choice.
+fn choice_goal<N: Exact>(alloc: Global, table: &PathTable, choice: &[u32]) -> Result<Vec<N>, Memory>
+    requires { IsChoice table.now choice.now }
+    ensures { IfOk result (λ v. map N.rational v.items ≡ map (revenue_goal table.now choice.now) (map toll_column (tolls table.now))) }
+{
+    let mut goal = Vec::new(alloc);
+    for toll in 0..table.tolls() {
+        goal.push(whole_number(payers(table, choice, TollId(toll))))?;
+    }
+    Ok(goal)
+}
+
+/// How many travellers pay a toll where each commodity takes its chosen path.
+fn payers(table: &PathTable, choice: &[u32], toll: TollId) -> u32
+    requires choice { IsChoice table.now choice.now }
+    requires toll { toll.0 < 128 }
+    ensures value { result ≡ payers table.now choice.now toll.0 }
+    ensures small { result ≤ 100000000 }
+{
+    let mut sum = 0;
+    for k in 0..table.commodities() {
+        sum += payer(table, k, choice[k as usize], toll);
+    }
+    sum
+}
+
+/// How many travellers pay a toll where a commodity takes this path.
+fn payer(table: &PathTable, k: u32, path: u32, toll: TollId) -> u32
+    requires k { k < length table.now.covers }
+    requires path { path < path_count table.now k }
+    requires toll { toll.0 < 128 }
+    ensures value { result ≡ (if uses table.now k path toll.0 then demand_at table.now k else 0) }
+    ensures small { result ≤ 1000000 }
+{
+    if has_toll(table.paths(k), path, toll) {
+        table.demand(k)
+    } else {
+        0
+    }
+}
+
+/// Whether a path uses a toll.
+fn has_toll(paths: &[UsefulPath], q: u32, toll: TollId) -> bool
+    requires q { q < length paths.now }
+    requires toll { toll.0 < 128 }
+    ensures { result ≡ (bit_at (path_at (map path_value paths.now) q).tolls toll.0 == 1) }
+{
+    toll_set(paths, q).has(toll)
+}
+
+/// What a toll of the chosen path adds to a row, and one of another path takes away.
+fn difference(chosen: TollSet, other: TollSet, toll: TollId) -> i64
+    requires { toll.0 < 128 }
+    ensures value { result ≡ (if bit_at chosen toll.0 == 1
+        then (if bit_at other toll.0 == 1 then pos 0 else pos 1)
+        else (if bit_at other toll.0 == 1 then negsuc 0 else pos 0)) }
+    ensures small { nat_abs result < 2 ^ 31 }
+{
+    match (chosen.has(toll), other.has(toll)) {
+        (true, false) => 1,
+        (false, true) => -1,
+        _ => 0,
+    }
+}
+
+/// The tolls of the chosen path less those of another path.
+pub(crate) fn push_differences<N: Exact>(
+    entries: &mut Vec<Entry<N>>,
+    tolls: u32,
+    chosen: TollSet,
+    other: TollSet,
+) -> Result<(), Memory>
+    requires { tolls ≤ 128 }
+    ensures { OnOk result (terms_of N.rational entries.new.items
+        ≡ terms_of N.rational entries.old.items ++ numbers_from 0 (λ b. one_if (bit_at chosen b == 1) -ℚ one_if (bit_at other b == 1)) (range_with_len 0 tolls)) }
+{
+    for toll in 0..tolls {
+        push_number(entries, toll, difference(chosen, other, TollId(toll)))?;
+    }
+    Ok(())
+}

@@ -1,0 +1,37 @@
+//! The linear programs of a network pricing problem: best tolls for chosen paths, a relaxation over allowed paths, and
+//! rows derived from them that every outcome meets.
+#![tactic(auto)]
+
+mod allowed;
+mod basic;
+mod choice;
+mod column_names;
+mod cut;
+mod cut_entries;
+mod entries;
+mod index;
+mod mark;
+mod names;
+mod refusal;
+mod relaxed;
+mod response;
+mod row;
+mod row_feed;
+mod row_names;
+mod search;
+mod starts;
+mod table;
+mod toll_caps;
+
+pub use allowed::Allowed;
+pub use basic::basic_of;
+pub use choice::inverse;
+pub use cut::{CutFault, CutRow, CutTerm, Derivation};
+pub use index::RelaxationIndex;
+pub use mark::{Mark, Step};
+pub use names::{ColumnName, Multiplier, RowName};
+pub use refusal::RelaxRefusal;
+pub use relaxed::{relaxation, relaxation_any_size};
+pub use response::Response;
+pub use table::PathTable;
+pub use toll_caps::caps;
