@@ -1,0 +1,12 @@
+pub mod TollLaws
+pub mod OfferLaws
+pub mod AskLaws
+pub mod TakenLaws
+pub mod ReplyLaws
+pub mod BestReplies
+pub mod CoverLaws
+pub mod WorkLaws
+pub mod PointLaws
+pub mod EarnLaws
+pub mod Examples
+pub mod BestLaws

@@ -1,0 +1,5 @@
+pub mod Offers
+pub mod Replies
+pub mod Work
+pub mod Tolls
+pub mod Best
