@@ -1,7 +1,8 @@
 pub mod Deciding
 pub mod Digits
+pub mod EqualDenominators
+pub mod Halving
 pub mod Pairs
-pub mod Wider
 pub mod Signs
 pub mod WholeNumbers
-pub mod Halving
+pub mod Wider

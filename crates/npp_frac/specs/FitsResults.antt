@@ -1,6 +1,6 @@
 -- What a sum gives where its numbers fit is a value of the width.
 use Rattle.std.specs.Prelude.{◌≡◌, ℕ, ◌*◌, ◌/◌, ◌<◌, ℤ, pos, ◌+ℤ◌, ◌*ℤ◌, nat_abs, true, nat_lt, ◌&&◌}
-use Rattle.std.proofs.Common.{arith, sym, ◌∙◌, ap, subst, lt_of_le_of_lt}
+use Rattle.std.proofs.Common.{arith, subst, lt_of_le_of_lt}
 use Rattle.std.proofs.Math.Nat.{div-mul_cancel, mul-pos, div-le_self}
 use Rattle.std.proofs.lemmas.Bool.Decides.{nat_tests}
 use Rattle.npp_frac.specs.Gcd.{gcd, IsGcd-gcd}
@@ -8,7 +8,7 @@ use Rattle.npp_frac.specs.Rational.{Rational, ratio, ratio_fields, abs_quot, ◌
 use Rattle.npp_frac.specs.Reduction.{ratio-sum, quotient_pos_left}
 use Rattle.npp_frac.specs.Fits.{FitsBelow, FitsAdd, fits_add}
 
-ratio_below : (m : ℕ) (n : ℤ) (d : ℕ) → 0 < d → nat_abs n < m → d < m → FitsBelow m (ratio n d)
+pub ratio_below : (m : ℕ) (n : ℤ) (d : ℕ) → 0 < d → nat_abs n < m → d < m → FitsBelow m (ratio n d)
 ratio_below m n d above top bottom =
     let is = ratio_fields n d above in
     record {

@@ -12,6 +12,7 @@ pub mod Fits
 pub mod FitsLaws
 pub mod ZeroLaws
 pub mod FitsResults
+pub mod AnyForm
 pub mod Value
 pub mod ValueLaws
 pub mod Wide

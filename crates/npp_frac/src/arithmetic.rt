@@ -1,4 +1,4 @@
-//! Operations on pairs, below a limit. They are inlined, since to copy their results takes longer than
+//! Operations on pairs of long numbers, below a limit. They are inlined, since to copy their results takes longer than
 //! to find them.
 
 ghost use Rattle.std.specs.Prelude.{◌≡◌, ◌≢◌, ◌<◌, ◌≤◌, ◌^◌, ◌↔◌, nat_abs, is_some, IsTrue, IsSome, IfSome};
@@ -52,9 +52,25 @@ pub fn sum(a: Reduced, b: Reduced, limit: u128) -> Option<Reduced>
 {
     if are_whole(a, b) {
         whole_sum(a, b, limit)
+    } else if a.den == b.den {
+        equal_sum(a, b, limit)
     } else {
         fraction_sum(a, b, limit)
     }
+}
+
+/// The sum of fractions of one denominator, where it is below the limit. The numerators are added as they stand.
+fn equal_sum(a: Reduced, b: Reduced, limit: u128) -> Option<Reduced>
+    requires limit { limit ≤ 2 ^ 127 }
+    requires same { a.den ≡ b.den }
+    requires left { FitsBelow limit (value_of a) }
+    requires right { FitsBelow limit (value_of b) }
+    ensures fits { IsSome result ↔ FitsAdd limit (value_of a) (value_of b) }
+    ensures exact { IfSome result (λ r. value_of r ≡ value_of a +ℚ value_of b) }
+    ensures below { IfSome result (λ r. FitsBelow limit (value_of r)) }
+{
+    let total = signed_sum(a.num, b.num, limit)?;
+    Some(reduced(total, b.den, gcd(size(total), b.den)))
 }
 
 /// The sum of whole numbers, where it is below the limit.

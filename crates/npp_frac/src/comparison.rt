@@ -1,12 +1,13 @@
 //! The order of fractions, by products of twice their length.
 
-ghost use Rattle.std.specs.Prelude.{◌≡◌, ◌<◌, ◌^◌, ◌+◌, ◌*◌};
+ghost use Rattle.std.specs.Prelude.{◌≡◌, ◌<◌, ◌^◌, ◌+◌, ◌*◌, pos, ◌*ℤ◌, nat_abs};
 ghost use Rattle.std.specs.Ordering.{nat_cmp};
 ghost use Rattle.npp_frac.specs.Rational.{rational_cmp};
-ghost use Rattle.npp_frac.specs.Value.{value_of};
+ghost use Rattle.npp_frac.specs.Value.{value_of, value_of_words};
 
 use crate::numbers::size;
 use crate::reduced::Reduced;
+use crate::reduced_words::ReducedWords;
 use std::cmp::Ordering;
 
 /// The product of two numbers of 128 bits, as its high and its low half.
@@ -55,4 +56,25 @@ pub fn compare(a: Reduced, b: Reduced) -> Ordering
     } else {
         compare_products(size(a.num), b.den, size(b.num), a.den)
     }
+}
+
+/// The product of a word and of a positive one, in a long number.
+#[inline(always)]
+fn long_product(a: i64, b: u64) -> i128
+    requires a { nat_abs a < 2 ^ 63 }
+    requires b { b < 2 ^ 63 }
+    ensures { result ≡ a *ℤ pos b }
+{
+    i128::from(a) * i128::from(b)
+}
+
+/// The order of two fractions of words.
+#[tactic(auto, unfolding(crate::specs::Rational::rational_cmp))]
+#[inline(always)]
+pub fn compare_words(a: ReducedWords, b: ReducedWords) -> Ordering
+    ensures { result ≡ rational_cmp (value_of_words a) (value_of_words b) }
+{
+    let left = long_product(a.num, b.den);
+    let right = long_product(b.num, a.den);
+    left.cmp(&right)
 }

@@ -4,42 +4,41 @@ ghost use Rattle.std.specs.Prelude.{◌≡◌, ◌^◌};
 ghost use Rattle.npp_frac.specs.Fits.{FitsBelow};
 ghost use Rattle.npp_frac.specs.Narrow.{value_of_32};
 ghost use Rattle.npp_frac.specs.NarrowLaws.{width_32, fits_32, same_32};
-ghost use Rattle.npp_frac.specs.Value.{value_of};
+ghost use Rattle.npp_frac.specs.Value.{value_of_words};
 
-use crate::arithmetic;
-use crate::comparison::compare;
+use crate::comparison::compare_words;
 use crate::exact::Exact;
 use crate::frac32::Frac32;
 use crate::frac128::Frac128;
-use crate::reduced::Reduced;
+use crate::reduced_words::ReducedWords;
 use crate::refusal::{Op, Overflow};
+use crate::word_arithmetic;
 use std::cmp::Ordering;
 
-const LIMIT: u128 = 1 << 31;
+const LIMIT: u64 = 1 << 31;
 
 impl Frac32 {
-    /// The pair on which the arithmetic works.
+    /// The pair in words of 64 bits, on which the arithmetic works.
     #[inline(always)]
-    pub(crate) fn pair(self) -> Reduced
-        ensures value { value_of result ≡ value_of_32 self }
-        ensures below { FitsBelow (2 ^ 31) (value_of result) }
+    pub(crate) fn words(self) -> ReducedWords
+        ensures value { value_of_words result ≡ value_of_32 self }
+        ensures below { FitsBelow (2 ^ 31) (value_of_words result) }
     {
-        Reduced {
-            num: i128::from(self.num),
-            // By way of an unsigned word the upper half is 0, which makes the arithmetic faster.
-            den: u128::from(self.den as u32),
+        ReducedWords {
+            num: i64::from(self.num),
+            den: u64::from(self.den),
         }
     }
 
     /// The fraction of a pair whose numbers fit.
     #[inline(always)]
-    pub(crate) fn of_pair(pair: Reduced) -> Frac32
-        requires { FitsBelow (2 ^ 31) (value_of pair) }
-        ensures { value_of_32 result ≡ value_of pair }
+    pub(crate) fn of_words(pair: ReducedWords) -> Frac32
+        requires { FitsBelow (2 ^ 31) (value_of_words pair) }
+        ensures { value_of_32 result ≡ value_of_words pair }
     {
         Frac32 {
             num: pair.num as i32,
-            den: pair.den as i32,
+            den: pair.den as u32,
         }
     }
 }
@@ -58,13 +57,13 @@ impl Exact for Frac32 {
     const WIDTH: u32 = 32;
 
     fn of_whole(value: i64) -> Frac32 {
-        Frac32::of_pair(arithmetic::of_whole(i128::from(value)))
+        Frac32::of_words(word_arithmetic::of_whole(value))
     }
 
     #[inline(always)]
     fn add(self, other: Frac32) -> Result<Frac32, Overflow<Frac32>> {
-        match arithmetic::add(self.pair(), other.pair(), LIMIT) {
-            Some(pair) => Ok(Frac32::of_pair(pair)),
+        match word_arithmetic::add(self.words(), other.words(), LIMIT) {
+            Some(pair) => Ok(Frac32::of_words(pair)),
             None => Err(Overflow {
                 op: Op::Add,
                 left: self,
@@ -75,8 +74,8 @@ impl Exact for Frac32 {
 
     #[inline(always)]
     fn sub(self, other: Frac32) -> Result<Frac32, Overflow<Frac32>> {
-        match arithmetic::sub(self.pair(), other.pair(), LIMIT) {
-            Some(pair) => Ok(Frac32::of_pair(pair)),
+        match word_arithmetic::sub(self.words(), other.words(), LIMIT) {
+            Some(pair) => Ok(Frac32::of_words(pair)),
             None => Err(Overflow {
                 op: Op::Sub,
                 left: self,
@@ -87,8 +86,8 @@ impl Exact for Frac32 {
 
     #[inline(always)]
     fn mul(self, other: Frac32) -> Result<Frac32, Overflow<Frac32>> {
-        match arithmetic::mul(self.pair(), other.pair(), LIMIT) {
-            Some(pair) => Ok(Frac32::of_pair(pair)),
+        match word_arithmetic::mul(self.words(), other.words(), LIMIT) {
+            Some(pair) => Ok(Frac32::of_words(pair)),
             None => Err(Overflow {
                 op: Op::Mul,
                 left: self,
@@ -98,8 +97,8 @@ impl Exact for Frac32 {
     }
 
     fn div(self, other: Frac32) -> Result<Frac32, Overflow<Frac32>> {
-        match arithmetic::div(self.pair(), other.pair(), LIMIT) {
-            Some(pair) => Ok(Frac32::of_pair(pair)),
+        match word_arithmetic::div(self.words(), other.words(), LIMIT) {
+            Some(pair) => Ok(Frac32::of_words(pair)),
             None => Err(Overflow {
                 op: Op::Div,
                 left: self,
@@ -109,7 +108,7 @@ impl Exact for Frac32 {
     }
 
     fn cmp(self, other: Frac32) -> Ordering {
-        compare(self.pair(), other.pair())
+        compare_words(self.words(), other.words())
     }
 
     #[tactic(auto, unfolding(crate::specs::Narrow::value_of_32))]
@@ -123,11 +122,13 @@ impl Exact for Frac32 {
     }
 
     fn floor(self) -> Frac32 {
-        Frac32::of_pair(arithmetic::floor(self.pair()))
+        Frac32::of_words(word_arithmetic::floor(self.words()))
     }
 
     #[tactic(auto, unfolding(crate::specs::Wide::value_of_wide))]
     fn widen(self) -> Frac128 {
-        Frac128 { pair: self.pair() }
+        Frac128 {
+            pair: self.words().long(),
+        }
     }
 }

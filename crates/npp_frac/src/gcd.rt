@@ -34,6 +34,30 @@ fn gcd_by_length(a: u128, b: u128) -> u128
     }
 }
 
+/// The greatest common divisor of words.
+#[inline(always)]
+pub fn word_gcd(a: u64, b: u64) -> u64
+    ensures exact { result ≡ gcd_of a b }
+    ensures positive { 0 < b → 0 < result }
+    ensures at_most { 0 < b → result ≤ b }
+{
+    short_word_gcd(a, b)
+}
+
+/// 1 is answered in place, as above.
+#[inline(always)]
+fn short_word_gcd(a: u64, b: u64) -> u64
+    ensures { result ≡ gcd_of a b }
+{
+    if b == 1 {
+        return 1;
+    }
+    if a == 1 {
+        return 1;
+    }
+    gcd_of_words(a, b)
+}
+
 /// The binary algorithm: the factors 2 that both numbers have, times the divisor of their odd parts.
 #[inline(never)]
 fn gcd_of_words(a: u64, b: u64) -> u64

@@ -16,12 +16,16 @@ mod frac64_exact;
 mod gcd;
 mod numbers;
 mod reduced;
+mod reduced_words;
 mod refusal;
 mod sign;
 #[cfg(test)]
 mod tests;
 mod text;
+mod widening;
 mod widths;
+mod word_arithmetic;
+mod word_numbers;
 
 pub use exact::Exact;
 pub use frac32::Frac32;

@@ -1,4 +1,4 @@
-//! Pairs without a common factor, on which the fractions of every width work.
+//! Pairs of long numbers without a common factor, on which the fractions of 128 bits work.
 
 ghost use Rattle.std.specs.Prelude.{◌≡◌, ◌<◌, ◌^◌, nat_abs};
 ghost use Rattle.npp_frac.specs.Gcd.{gcd as gcd_of};
