@@ -2,13 +2,16 @@
 
 use npp_net::Memory;
 use std::alloc::{AllocError, AllocFailed};
+use thiserror::Error;
 
 /// Why the useful labels of a commodity are not listed.
-#[derive(Debug, PartialEq, Eq, Drop)]
+#[derive(Debug, PartialEq, Eq, Drop, Error)]
 pub enum LabelRefusal {
     /// There are over 65,536 of them.
+    #[error("over 65,536 useful labels")]
     TooManyLabels,
     /// Memory was wanting.
+    #[error("no memory")]
     Memory,
 }
 
