@@ -9,6 +9,3 @@ mod refusal;
 pub use basic::basic_bound;
 pub use least::{LeastCosts, free_and_zero, least_costs};
 pub use refusal::BoundsRefusal;
-
-#[cfg(test)]
-mod tests;

@@ -19,8 +19,6 @@ mod path;
 mod paths;
 mod rank;
 mod steps;
-#[cfg(test)]
-mod tests;
 
 pub use check::check_cover;
 pub use cover::{Cover, CoverPlan};

@@ -19,8 +19,6 @@ mod reduced;
 mod reduced_words;
 mod refusal;
 mod sign;
-#[cfg(test)]
-mod tests;
 mod text;
 mod widening;
 mod widths;

@@ -9,8 +9,6 @@ mod pending;
 mod queue;
 mod refusal;
 mod steps;
-#[cfg(test)]
-mod tests;
 
 pub use commodity::useful;
 pub use covers::{CoversRefusal, useful_all};

@@ -15,8 +15,6 @@ mod program;
 mod running;
 mod sparse;
 mod sums;
-#[cfg(test)]
-mod tests;
 
 pub use builder::ProgramBuilder;
 pub use dual::check_dual;

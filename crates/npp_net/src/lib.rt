@@ -9,8 +9,6 @@ mod limits;
 mod listed;
 mod lists;
 mod refusal;
-#[cfg(test)]
-mod tests;
 mod toll_set;
 mod tolls;
 mod types;

@@ -18,6 +18,3 @@ pub use sink::{Sink, SinkAnswer, write_whole};
 pub use std_sink::StdSink;
 pub use sure_shelf::SureShelf;
 pub use sure_sink::SureSink;
-
-#[cfg(test)]
-mod tests;

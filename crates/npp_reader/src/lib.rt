@@ -19,6 +19,3 @@ pub use names::Names;
 pub use printing::print;
 pub use reading::read;
 pub use refusal::ReadRefusal;
-
-#[cfg(test)]
-mod tests;

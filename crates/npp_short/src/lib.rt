@@ -10,6 +10,3 @@ mod walk;
 pub use distances::distances_to;
 pub use potentials::Potentials;
 pub use walk::walk_from;
-
-#[cfg(test)]
-mod tests;

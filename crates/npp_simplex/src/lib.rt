@@ -18,8 +18,6 @@ mod shape;
 mod solver;
 mod stage;
 mod tableau;
-#[cfg(test)]
-mod tests;
 mod vectors;
 
 pub use answer::Answer;

@@ -1,0 +1,19 @@
+//! Tests of the crates on files, networks and covers. They stand apart, so that each of these crates is proved once.
+#![tactic(auto)]
+
+#[cfg(test)]
+mod bounds;
+#[cfg(test)]
+mod cover;
+#[cfg(test)]
+mod labels;
+#[cfg(test)]
+mod net;
+#[cfg(test)]
+mod network;
+#[cfg(test)]
+mod outside;
+#[cfg(test)]
+mod reader;
+#[cfg(test)]
+mod short;

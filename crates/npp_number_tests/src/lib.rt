@@ -1,0 +1,9 @@
+//! Tests of the crates on fractions, programs and the simplex. They stand apart, so that each of these crates is proved once.
+#![tactic(auto)]
+
+#[cfg(test)]
+mod frac;
+#[cfg(test)]
+mod lp;
+#[cfg(test)]
+mod simplex;

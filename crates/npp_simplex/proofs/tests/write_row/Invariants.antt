@@ -1,6 +1,0 @@
-use Rattle.std.proofs.Common.{◌≡◌, ◌≤◌}
-use Rattle.npp_simplex.proofs.tests.write_row.Given as goal
-
--- the columns so far are written
-abbrev pub invariant-loop-column : goal.invariant-loop-column
-invariant-loop-column g l = (l.builder.columns ≡ l.columns) × (l.builder.next ≤ l.column)
