@@ -1,5 +1,6 @@
 -- What a path of the table asks, by its tolls as they are gone through.
 use Rattle.std.proofs.Common.{◌≡◌, ℕ, ◌<◌, Bool, true, false, ◌&&◌, List, length, map, get_or, refl, sym, ap, ◌∙◌, subst, arith, pos, All}
+use Rattle.std.proofs.lemmas.List.{length-map}
 use Rattle.npp_frac.specs.Rational.{Rational, zero_ℚ, whole, ◌+ℚ◌}
 use Rattle.npp_frac.specs.Sums.{sum_by}
 use Rattle.npp_frac.specs.Fits.{fits_add}
@@ -48,3 +49,7 @@ module _ (m : PathModel) (T : List Rational) (k q : ℕ) (r : UsefulPath) (limit
 
     pub offered : (price : Rational) → price ≡ cost +ℚ toll → IsOffer m T k q toll price
     offered price p = record { pays = toll_is; asks = p ∙ ap (λ c. c +ℚ toll) cost_is ∙ ap (λ t. whole (pos (useful_path m k q).cost) +ℚ t) toll_is }
+
+-- as many paths as their values
+pub same_count : (paths : List UsefulPath) (values : List PathValue) → map path_value paths ≡ values → length paths ≡ length values
+same_count paths values e = sym (length-map paths path_value) ∙ ap length e

@@ -19,7 +19,7 @@ use Rattle.npp_inverse.specs.Offers.{HasUsefulPaths}
 use Rattle.npp_inverse.proofs.EarnLaws.{earns_goal}
 use Rattle.npp_inverse.specs.Work.{Ending, AtPoint, AtMark, program_work, with_reply, inverse_work}
 use Rattle.npp_inverse.specs.Best.{AreBestTolls}
-use Rattle.npp_inverse.proofs.PointLaws.{columns_are, cap_below, point_below}
+use Rattle.npp_rows.proofs.PointLaws.{columns_are, cap_below, point_below}
 
 module _ (limit : ℕ) (m : PathModel) (choice : List ℕ) where
   pub found_work : (x y : List Rational) (v : Rational) → AtPoint x y v ≡ program_work limit (numbered (inverse m choice)) → reply_stop limit m x ≡ None
@@ -37,7 +37,7 @@ module _ (limit : ℕ) (m : PathModel) (choice : List ℕ) where
   other_work e same is = sym same ∙ ap (with_reply limit m) is
 
 module _ (m : PathModel) (choice : List ℕ) where
-  in_order : All (λ r. AreTerms (numbered (inverse m choice)).columns r.terms) (numbered (inverse m choice)).rows
+  pub in_order : All (λ r. AreTerms (numbered (inverse m choice)).columns r.terms) (numbered (inverse m choice)).rows
   in_order =
       All-map (λ r. AreTerms (length (map Toll (tolls m))) r.terms) (λ r. record { terms = terms_from 0 (choice_entry m (λ k. Some (chosen choice k)) r) (map Toll (tolls m)); right = choice_right m (λ k. Some (chosen choice k)) r }) (choice_rows m (λ k. Some (chosen choice k)))
       (λ i d l. terms_are_in_order (choice_entry m (λ k. Some (chosen choice k)) (slice_index_or (choice_rows m (λ k. Some (chosen choice k))) i d)) (map Toll (tolls m)))

@@ -6,7 +6,7 @@ pub mod ReplyLaws
 pub mod BestReplies
 pub mod CoverLaws
 pub mod WorkLaws
-pub mod PointLaws
 pub mod EarnLaws
 pub mod Examples
 pub mod BestLaws
+pub mod ZeroLaws

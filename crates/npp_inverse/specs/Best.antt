@@ -1,5 +1,5 @@
 -- The best tolls of a choice, and what proves them.
-use Rattle.std.specs.Prelude.{◌≡◌, ℕ, ◌<◌, pos, List, map, length, ⊤}
+use Rattle.std.specs.Prelude.{◌≡◌, ℕ, ◌<◌, pos, List, map, length, All, ⊤}
 use Rattle.npp_frac.specs.Rational.{Rational, zero_ℚ, whole, ◌≤ℚ◌}
 use Rattle.npp_lp.specs.Programs.{at, goal_at, IsPoint, IsOptimum}
 use Rattle.npp_lp.specs.Duals.{IsDualAnswer, IsFarkasAnswer}
@@ -37,3 +37,13 @@ abbrev pub IsProvedBest : {N : Type 0} → (N → Rational) → PathModel → Li
 IsProvedBest value m choice (best.Found tolls v y r) = AreBestTolls m choice (map value tolls) (map value y.items) (value v) (reply_value value r)
 IsProvedBest value m choice (best.NoTolls y) = IsFarkasAnswer (numbered (inverse m choice)) (map value y.items)
 IsProvedBest value m choice (best.Loud k) = ⊤
+
+-- path 0 of each commodity is chosen
+abbrev pub IsZeroChoice : List ℕ → Type 0
+IsZeroChoice choice = All (λ path. path ≡ 0) choice
+
+-- it is not answered that there are no tolls
+abbrev pub LeavesTolls : {N : Type 0} → Best N → Type 0
+LeavesTolls (best.Found tolls v y r) = ⊤
+LeavesTolls (best.NoTolls y) = ⊥
+LeavesTolls (best.Loud k) = ⊤

@@ -1,20 +1,14 @@
 -- What the reply to tolls is for: its paths are cheapest over all walks, and no cheapest walks earn more.
-use Rattle.std.specs.Prelude.{◌≡◌, ℕ, ◌<◌, ◌≤◌, pos, List, length}
+use Rattle.std.specs.Prelude.{◌≡◌, ◌≤◌, pos, List}
 use Rattle.npp_frac.specs.Rational.{Rational, ratio}
 use Rattle.npp_net.specs.declared.types.ArcId.{ArcId}
 use Rattle.npp_net.specs.Network.{Network}
 use Rattle.npp_net.specs.Toll.{TollVector}
 use Rattle.npp_net.specs.Outcome.{AreCheapest, revenue}
-use Rattle.npp_lp.specs.Programs.{at}
 use Rattle.npp_rows.specs.PathModel.{PathModel}
-use Rattle.npp_rows.specs.Piece.{toll_value, walks_of}
+use Rattle.npp_rows.specs.Piece.{walks_of}
+use Rattle.npp_rows.specs.TollVectors.{HasTolls}
 use Rattle.npp_rows.specs.Response.{Reply}
-
--- a toll vector has these tolls, over a common denominator
-pub record HasTolls (T : List Rational) (t : TollVector) : Type 0 where
-  pub positive : 0 < t.denominator
-  pub size : length t.numerators ≡ length T
-  pub each : (a : ℕ) → a < length T → at T a ≡ toll_value t a
 
 -- the paths are cheapest over all walks; they earn the revenue; and no walks that are cheapest earn more
 pub record IsBestReply (net : Network) (m : PathModel) (t : TollVector) (r : Reply) : Type 0 where

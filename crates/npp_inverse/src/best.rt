@@ -2,13 +2,15 @@
 
 ghost use Rattle.std.specs.Prelude.{◌≡◌, ◌≤◌, length, map, IfOk};
 ghost use Rattle.npp_frac.specs.Fits.{limit_of};
+ghost use Rattle.npp_net.specs.Network.{Network};
 ghost use Rattle.npp_rows.specs.Caps.{path_model};
 ghost use Rattle.npp_rows.specs.Limits.{path_total};
 ghost use Rattle.npp_rows.specs.Lowering.{AreClosedCovers};
+ghost use Rattle.npp_rows.specs.Promises.{IsModelOf};
 ghost use Rattle.npp_rows.specs.Rows.{IsChoice};
 ghost use Rattle.npp_inverse.specs.Offers.{HasUsefulPaths};
 ghost use Rattle.npp_inverse.specs.Work.{inverse_work};
-ghost use Rattle.npp_inverse.specs.Best.{best_ending, IsProvedBest};
+ghost use Rattle.npp_inverse.specs.Best.{best_ending, IsProvedBest, IsZeroChoice, LeavesTolls};
 
 use crate::quiet::{Work, work_on};
 use crate::refusal::RespondRefusal;
@@ -46,7 +48,8 @@ pub enum Best<N> {
 ///
 /// They are the point of the run of the inverse program. The program is quiet at the width of `N` where its run and the
 /// sums of the check of its multipliers fit and, where it has a point, the reply to its tolls does too. Else it is `Loud`
-/// with the mark of the first of these that fails; it is never `Loud(Large)`.
+/// with the mark of the first of these that fails; it is never `Loud(Large)`. The choice of path 0 of each commodity always
+/// has tolls, since zero tolls will do.
 pub fn best_tolls_for<N: Exact>(
     alloc: Global,
     table: &PathTable,
@@ -56,6 +59,7 @@ pub fn best_tolls_for<N: Exact>(
     requires useful { HasUsefulPaths table.now }
     ensures work { IfOk result (λ b. best_ending N.rational b ≡ inverse_work (limit_of N.WIDTH) table.now choice.now) }
     ensures proved { IfOk result (λ b. IsProvedBest N.rational table.now choice.now b) }
+    ensures zero_choice { (net : Network) → IsModelOf net table.now → IsZeroChoice choice.now → IfOk result LeavesTolls }
 {
     let program = table.inverse(alloc, choice)?;
     match work_on(alloc, &program)? {
@@ -88,6 +92,7 @@ pub fn best_tolls<N: Exact>(
     requires choice { IsChoice (path_model instance.now covers.now) choice.now }
     ensures work { IfOk result (λ b. best_ending N.rational b ≡ inverse_work (limit_of N.WIDTH) (path_model instance.now covers.now) choice.now) }
     ensures proved { IfOk result (λ b. IsProvedBest N.rational (path_model instance.now covers.now) choice.now b) }
+    ensures zero_choice { IsZeroChoice choice.now → IfOk result LeavesTolls }
 {
     let table = PathTable::new(alloc, instance, covers)?;
     best_tolls_for(alloc, &table, choice)

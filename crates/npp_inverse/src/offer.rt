@@ -2,7 +2,7 @@
 
 ghost use Rattle.std.specs.Prelude.{◌≡◌, ◌<◌, ◌^◌, ◌&&◌, pos, length, map, is_ok, IfOk, All, MatchBool};
 ghost use Rattle.std.specs.List.{list_all};
-ghost use Rattle.npp_frac.specs.Rational.{zero_ℚ, whole};
+ghost use Rattle.npp_frac.specs.Rational.{zero_ℚ, whole, is_less};
 ghost use Rattle.npp_frac.specs.Fits.{limit_of, fits_add};
 ghost use Rattle.npp_frac.specs.Sums.{sum_by};
 ghost use Rattle.npp_net.specs.TollSets.{tolls_of};
@@ -74,6 +74,13 @@ fn offer_of<N: Exact>(
     Ok(Offer { path, toll, price })
 }
 
+/// Whether the first of two offers of one price pays more.
+fn pays_more<N: Exact>(first: Offer<N>, second: Offer<N>) -> bool
+    ensures { result ≡ is_less (N.rational second.toll) (N.rational first.toll) }
+{
+    is_below(second.toll, first.toll)
+}
+
 /// Whether the first offer has a lower price, or the same price and a higher toll.
 fn is_better<N: Exact>(first: Offer<N>, second: Offer<N>) -> bool
     ensures { MatchBool result
@@ -82,9 +89,18 @@ fn is_better<N: Exact>(first: Offer<N>, second: Offer<N>) -> bool
 {
     match first.price.cmp(second.price) {
         Ordering::Less => true,
-        Ordering::Equal => is_below(second.toll, first.toll),
+        Ordering::Equal => pays_more(first, second),
         Ordering::Greater => false,
     }
+}
+
+/// How many useful paths a commodity has.
+#[tactic(auto, using(crate::proofs::AskLaws::same_count))]
+fn path_count(table: &PathTable, k: u32) -> u32
+    requires { k < length table.now.covers }
+    ensures { result ≡ path_count table.now k }
+{
+    table.paths(k).len() as u32
 }
 
 /// The offer that a commodity takes: of the least price, among these of the highest toll, among these the first.
@@ -101,7 +117,7 @@ pub(crate) fn taken_offer<N: Exact>(
     ensures toll { IfOk result (λ o. N.rational o.toll ≡ taken_toll table.now (map N.rational tolls.now) k) }
 {
     let mut taken = offer_of(table, k, 0, tolls)?;
-    for path in 1..table.paths(k).len() as u32 {
+    for path in 1..path_count(table, k) {
         let next = offer_of(table, k, path, tolls)?;
         if is_better(next, taken) {
             taken = next;

@@ -98,7 +98,7 @@ module _ (net : Network) (m : PathModel) (parts : List (List ℕ)) (t : TollVect
   some_is : (p q : ℕ) → (let o : Option ℕ = Some p in o ≡ Some q) → q ≡ p
   some_is p q e = cc
 
-  inverse_point : IsPointOf net m (inverse m choice) t choice
+  pub inverse_point : IsPointOf net m (inverse m choice) t choice
   inverse_point = record {
     point = choice_point net m parts t choice model allowed piece (λ k. Some (chosen choice k)) (λ k p e. some_is (chosen choice k) p e) (revenue_goal m choice);
     goal = inverse_goal;

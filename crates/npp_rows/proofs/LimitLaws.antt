@@ -20,7 +20,7 @@ use Rattle.npp_rows.specs.Lowering.{AreClosedCovers, IsClosedCover}
 use Rattle.npp_rows.proofs.ListLaws.{zip_at}
 use Rattle.npp_rows.proofs.ModelLaws.{covers_size, demand_is}
 use Rattle.npp_cover.proofs.SimpleWalks.{free_below as span_below}
-use Rattle.npp_cover.proofs.CoverLaws.{at_most_free}
+use Rattle.npp_cover.proofs.CoverLaws.{at_most_free, some_path}
 
 -- ---- a greatest number
 
@@ -113,4 +113,5 @@ module _ (net : Network) (covers : List CoverValue) (limits : IsNetwork net) (cl
     free = free_below;
     cost = cost_within;
     paths = few;
+    some = λ k h. let c = cover_is k h in some_path net.arcs (get_or net.commodities k no_commodity) c.0 (get_or covers k no_cover) c.2;
   }

@@ -108,3 +108,8 @@ then_more a b b' now next e h f = h ∙ ap₂ ◌++◌ e f
 pub map_twice : {X Y Z : Type 0} (f : Y → Z) (g : X → Y) (xs : List X) → map (λ x. f (g x)) xs ≡ map f (map g xs)
 map_twice f g [] = refl
 map_twice f g (x ∷ xs) = ap (λ t. f (g x) ∷ t) (map_twice f g xs)
+
+-- what a call adds, said in another way
+pub added_same : {T E X : Type 0} (r : Result T E) (old next a b : List X) → a ≡ b → OnOk r (next ≡ old ++ a) → OnOk r (next ≡ old ++ b)
+added_same (Ok x) old next a b e h = h ∙ ap (λ t. old ++ t) e
+added_same (Err x) old next a b e h = tt

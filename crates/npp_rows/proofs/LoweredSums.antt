@@ -19,7 +19,7 @@ above_each [] a i d h = absurd (omega (arith, h))
 above_each (x ∷ xs) a zero d h = omega (arith, above_start xs (max a x))
 above_each (x ∷ xs) a (suc i) d h = above_each xs (max a x) i d (omega (arith, h))
 
-fold_more : (xs ys : List ℕ) (a : ℕ) → fold max a (xs ++ ys) ≡ fold max (fold max a xs) ys
+pub fold_more : (xs ys : List ℕ) (a : ℕ) → fold max a (xs ++ ys) ≡ fold max (fold max a xs) ys
 fold_more [] ys a = refl
 fold_more (x ∷ xs) ys a = fold_more xs ys (max a x)
 

@@ -40,7 +40,7 @@ module _ (m : PathModel) (parts : List (List ℕ)) where
       omega (arith, columns_size, limits.tolls, shares_within m parts limits allowed (length m.covers) (omega arith), paid_within m parts limits allowed (length m.covers) (omega arith))
 
   -- what holds of each toll and commodity that have a column
-  pairs_all : {Y : Type 0} (P : Y → Type 0) (name : ℕ → ℕ → Y) → ((a k : ℕ) → IsPaidOn m parts a k → P (name a k)) → All P (on_allowed_tolls m parts name)
+  pub pairs_all : {Y : Type 0} (P : Y → Type 0) (name : ℕ → ℕ → Y) → ((a k : ℕ) → IsPaidOn m parts a k → P (name a k)) → All P (on_allowed_tolls m parts name)
   pairs_all P name h =
       all_flat P (λ k. map (λ a. name a k) (allowed_tolls m parts k)) (commodities m) (all_range (λ k. All P (map (λ a. name a k) (allowed_tolls m parts k))) (length m.covers) (λ k u.
       All-map P (λ a. name a k) (allowed_tolls m parts k) (λ j d l.

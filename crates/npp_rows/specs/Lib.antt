@@ -11,6 +11,7 @@ pub mod Derivations
 pub mod Basic
 pub mod Response
 pub mod Piece
+pub mod TollVectors
 pub mod Lowering
 pub mod Promises
 pub mod Meaning
@@ -20,3 +21,7 @@ pub mod Places
 pub mod Family
 pub mod Rows
 pub mod KindNames
+pub mod Taken
+pub mod TwoPaths
+pub mod Marks
+pub mod Rounding

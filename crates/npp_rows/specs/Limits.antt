@@ -1,7 +1,7 @@
 -- The limits that the useful paths of an instance keep.
 use Rattle.std.specs.Prelude.{◌≡◌, ℕ, ◌<◌, ◌≤◌, List, length, sum_by}
 use Rattle.npp_cover.specs.Replaces.{CoverValue}
-use Rattle.npp_rows.specs.PathModel.{PathModel, demand_at, cap_at, cover_at, path_cost}
+use Rattle.npp_rows.specs.PathModel.{PathModel, demand_at, cap_at, cover_at, path_cost, path_count}
 
 -- how many paths some covers have together
 abbrev pub path_total : List CoverValue → ℕ
@@ -18,3 +18,5 @@ pub record IsWithinLimits (m : PathModel) : Type 0 where
   pub free : (k : ℕ) → (cover_at m k).free < 1000000000
   pub cost : (k q : ℕ) → path_cost m k q ≤ (cover_at m k).free
   pub paths : path_total m.covers ≤ 16777216
+  -- and each commodity has a path
+  pub some : (k : ℕ) → k < length m.covers → 0 < path_count m k

@@ -1,5 +1,5 @@
 -- Which rows a relaxation has, kind by kind.
-use Rattle.std.specs.Prelude.{◌≡◌, ◌⊎◌, ℕ, ◌+◌, ◌<◌, List, [], ◌∷◌, ◌++◌, length, slice_index, slice_index_or, Contains}
+use Rattle.std.specs.Prelude.{◌≡◌, ◌⊎◌, ℕ, ◌+◌, ◌*◌, ◌<◌, List, [], ◌∷◌, ◌++◌, length, slice_index, slice_index_or, Contains}
 use Rattle.npp_frac.specs.Rational.{Rational}
 use Rattle.npp_lp.specs.Programs.{Term}
 use Rattle.npp_cover.specs.Replaces.{sum_below}
@@ -50,6 +50,17 @@ IsColumn m (Toll a) = Unit {0}
 IsColumn m (Share k p) = k < length m.covers
 IsColumn m (Paid a k) = k < length m.covers
 
+-- the relaxation has this column
+abbrev pub HasColumn : PathModel → List (List ℕ) → ColumnName → Type 0
+HasColumn m parts (Toll a) = a < length m.caps
+HasColumn m parts (Share k p) = (k < length m.covers) × Contains (part_at parts k) p
+HasColumn m parts (Paid a k) = IsPaidOn m parts a k
+
+-- the number of the first row of a kind of rows of a toll and a commodity: those of the caps and of all paths stand before
+-- them, and so many other such kinds
+abbrev pub pairs_from : PathModel → List (List ℕ) → ℕ → ℕ
+pairs_from m parts kinds = length m.caps + sum_below (path_count m) (length m.covers) + kinds * sum_below (paid_count m parts) (length m.covers)
+
 -- a row of the inverse program of a choice
 abbrev pub IsChoiceRow : PathModel → RowName → Type 0
 IsChoiceRow m (Cap a) = a < length m.caps
@@ -60,6 +71,23 @@ IsChoiceRow m (Link a k) = ⊥
 IsChoiceRow m (One k) = ⊥
 IsChoiceRow m (OneLow k) = ⊥
 IsChoiceRow m (Cut i) = ⊥
+
+-- a column of the inverse program of a choice
+abbrev pub IsChoiceColumn : PathModel → ColumnName → Type 0
+IsChoiceColumn m (Toll a) = a < length m.caps
+IsChoiceColumn m (Share k p) = ⊥
+IsChoiceColumn m (Paid a k) = ⊥
+
+-- a row of the program of a conflict of paths of two commodities
+abbrev pub IsConflictRow : PathModel → ℕ → ℕ → RowName → Type 0
+IsConflictRow m k l (Cap a) = a < length m.caps
+IsConflictRow m k l (Follow c r) = (c < length m.covers) × ((c ≡ k) ⊎ (c ≡ l)) × (r < path_count m c)
+IsConflictRow m k l (Below a c) = ⊥
+IsConflictRow m k l (Use a c) = ⊥
+IsConflictRow m k l (Link a c) = ⊥
+IsConflictRow m k l (One c) = ⊥
+IsConflictRow m k l (OneLow c) = ⊥
+IsConflictRow m k l (Cut i) = ⊥
 
 -- a useful path of each commodity
 pub record IsChoice (m : PathModel) (choice : List ℕ) : Type 0 where

@@ -12,7 +12,7 @@ ghost use Rattle.npp_rows.specs.Limits.{path_total};
 ghost use Rattle.npp_rows.specs.Lowering.{AreClosedCovers};
 ghost use Rattle.npp_rows.specs.PathModel.{path_count, uses, demand_at, tolls};
 ghost use Rattle.npp_rows.specs.Parts.{chosen, first_choice};
-ghost use Rattle.npp_rows.specs.Promises.{InverseHolds};
+ghost use Rattle.npp_rows.specs.Promises.{InverseHolds, InverseIsExact};
 ghost use Rattle.npp_rows.specs.Named.{one_if, terms_from, numbers_from, numbered};
 ghost use Rattle.npp_rows.specs.declared.names.ColumnName.TheVariants.{Toll as toll_column};
 ghost use Rattle.npp_rows.specs.Rows.{IsChoice, IsChoiceRow};
@@ -24,6 +24,7 @@ use crate::row::{toll_set, whole_number};
 use crate::row_feed::feed;
 use crate::row_names::{Single, push_follows, push_singles};
 use crate::table::PathTable;
+use crate::undercut::{push_undercut, undercut_right};
 use npp_cover::{Cover, UsefulPath};
 use npp_frac::Exact;
 use npp_lp::{Entry, Program, ProgramBuilder};
@@ -33,8 +34,9 @@ use std::alloc::Global;
 /// The inverse program of a choice, which names one useful path for each commodity.
 ///
 /// Its columns are the tolls, from 0 to their caps, and its rows say that each chosen path costs no more than any useful
-/// path of its commodity. Its goal is what the chosen paths pay, each commodity by its demand. The covers are those of the
-/// instance, one for each commodity in order.
+/// path of its commodity. Its goal is what the chosen paths pay, each commodity by its demand. So its points are exactly the
+/// tolls up to the caps under which the chosen paths are cheapest over all walks, and its goal there is what they earn. The
+/// covers are those of the instance, one for each commodity in order.
 pub fn inverse<N: Exact>(
     alloc: Global,
     instance: &Instance,
@@ -45,6 +47,7 @@ pub fn inverse<N: Exact>(
     requires few { path_total covers.now ≤ 16777216 }
     requires choice { IsChoice (path_model instance.now covers.now) choice.now }
     ensures program { IfOk result (λ p. linear_program N.rational p ≡ numbered (inverse (path_model instance.now covers.now) choice.now)) }
+    ensures exact { InverseIsExact instance.now (path_model instance.now covers.now) choice.now }
     ensures holds { (parts : List (List ℕ)) → first_choice parts ≡ choice.now → InverseHolds instance.now (path_model instance.now covers.now) parts }
 {
     let table = PathTable::new(alloc, instance, covers)?;
@@ -89,7 +92,7 @@ fn build<N: Exact>(
 }
 
 /// Writes the entries of a row of the inverse program of a choice.
-fn write_choice_row<N: Exact>(
+pub(crate) fn write_choice_row<N: Exact>(
     table: &PathTable,
     choice: &[u32],
     row: RowName,
@@ -103,15 +106,7 @@ fn write_choice_row<N: Exact>(
     entries.clear();
     match row {
         RowName::Cap(a) => push_number(entries, a, 1),
-        RowName::Follow(k, q) => {
-            let paths = table.paths(k);
-            push_differences(
-                entries,
-                table.tolls(),
-                toll_set(paths, choice[k as usize]),
-                toll_set(paths, q),
-            )
-        }
+        RowName::Follow(k, q) => push_undercut(entries, table, k, choice[k as usize], q),
         RowName::Below(_, _)
         | RowName::Use(_, _)
         | RowName::Link(_, _)
@@ -122,16 +117,14 @@ fn write_choice_row<N: Exact>(
 }
 
 /// The right side of a row of the inverse program of a choice.
-fn choice_right<N: Exact>(table: &PathTable, choice: &[u32], row: RowName) -> N
+pub(crate) fn choice_right<N: Exact>(table: &PathTable, choice: &[u32], row: RowName) -> N
     requires choice { IsChoice table.now choice.now }
     requires row { IsChoiceRow table.now row }
     ensures { N.rational result ≡ choice_right table.now (λ k. Some (chosen choice.now k)) row }
 {
     match row {
         RowName::Cap(a) => whole_number(table.cap(a)),
-        RowName::Follow(k, q) => {
-            N::of_whole(i64::from(table.cost(k, q)) - i64::from(table.cost(k, choice[k as usize])))
-        }
+        RowName::Follow(k, q) => undercut_right(table, k, choice[k as usize], q),
         RowName::Below(_, _)
         | RowName::Use(_, _)
         | RowName::Link(_, _)
@@ -142,7 +135,11 @@ fn choice_right<N: Exact>(table: &PathTable, choice: &[u32], row: RowName) -> N
 }
 
 /// The goal of the inverse program of a choice.
-fn choice_goal<N: Exact>(alloc: Global, table: &PathTable, choice: &[u32]) -> Result<Vec<N>, Memory>
+pub(crate) fn choice_goal<N: Exact>(
+    alloc: Global,
+    table: &PathTable,
+    choice: &[u32],
+) -> Result<Vec<N>, Memory>
     requires { IsChoice table.now choice.now }
     ensures { IfOk result (λ v. map N.rational v.items ≡ map (revenue_goal table.now choice.now) (map toll_column (tolls table.now))) }
 {

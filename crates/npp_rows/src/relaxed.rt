@@ -21,6 +21,7 @@ use crate::names::{ColumnName, RowName};
 use crate::refusal::RelaxRefusal;
 use crate::row::whole_number;
 use crate::row_feed::feed;
+use crate::size::is_large;
 use crate::table::PathTable;
 use npp_cover::Cover;
 use npp_frac::Exact;
@@ -107,12 +108,10 @@ impl RelaxationIndex<'_> {
             (λ p. is_large (relaxation self.now.paths self.now.parts (map (cut_value N.rational) cuts.now)) ≡ false)
             (λ e. (e ≡ RelaxRefusal.Memory) ⊎ (is_large (relaxation self.now.paths self.now.parts (map (cut_value N.rational) cuts.now)) ≡ true)) }
     {
-        let columns = self.columns(alloc)?;
-        let rows = self.rows(alloc, cuts.len() as u32)?;
-        if rows.len() as u128 * columns.len() as u128 > 1_000_000 {
+        if is_large(self, cuts.len() as u32) {
             return Err(RelaxRefusal::Large);
         }
-        Ok(build(alloc, self, cuts, &rows, &columns)?)
+        Ok(self.program(alloc, cuts)?)
     }
 }
 
@@ -144,7 +143,7 @@ fn build<N: Exact>(
 }
 
 /// The goal of columns.
-fn goal_of<N: Exact>(
+pub(crate) fn goal_of<N: Exact>(
     alloc: Global,
     table: &PathTable,
     columns: &[ColumnName],

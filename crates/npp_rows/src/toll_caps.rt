@@ -4,7 +4,7 @@ ghost use Rattle.std.specs.Prelude.{◌≡◌, ◌<◌, max, fold, map, flat_map
 ghost use Rattle.npp_net.specs.Network.{IsNetwork, toll_count};
 ghost use Rattle.npp_cover.specs.PathValue.{path_value};
 ghost use Rattle.npp_rows.specs.Lowering.{CanBeLowered};
-ghost use Rattle.npp_rows.specs.Caps.{toll_gap, greatest_gap, toll_cap, toll_caps};
+ghost use Rattle.npp_rows.specs.Caps.{toll_gap, greatest_gap, toll_cap, toll_caps, AreCaps};
 
 use npp_cover::{Cover, UsefulPath};
 use npp_net::{Instance, Memory, TollId};
@@ -17,6 +17,7 @@ use std::alloc::Global;
 /// commodity in order. Every outcome earns as much as one at tolls up to the caps whose walks are useful paths.
 pub fn caps(alloc: Global, instance: &Instance, covers: &[Cover]) -> Result<Vec<u64>, Memory>
     ensures caps { IfOk result (λ v. v.items ≡ toll_caps instance.now covers.now) }
+    ensures each { IfOk result (λ v. AreCaps instance.now covers.now v.items) }
     ensures limits { IsNetwork instance.now }
     ensures lowered { CanBeLowered instance.now covers.now }
 {

@@ -2,12 +2,14 @@ use Rattle.std.proofs.Common.{length, map, Err, refl, sym, ap, ◌∙◌, subst}
 use Rattle.std.proofs.lemmas.List.{length-map}
 use Rattle.npp_frac.specs.Fits.{limit_of}
 use Rattle.npp_lp.specs.Programs.{LinearProgram, IsRay}
+use Rattle.npp_lp.specs.Duals.{IsFarkasAnswer}
 use Rattle.npp_lp.specs.Meaning.{linear_program}
 use Rattle.npp_simplex.specs.Proved.{AreOptimal}
 use Rattle.npp_inverse.specs.declared.quiet.Work.{Work}
 use Rattle.npp_inverse.specs.Work.{program_work, IsProvedEnding}
 use Rattle.npp_inverse.specs.Tolls.{ending_of}
-use Rattle.npp_inverse.proofs.PointLaws.{no_ray, columns_are}
+use Rattle.npp_rows.proofs.PointLaws.{no_ray, columns_are}
+use Rattle.npp_inverse.proofs.ZeroLaws.{not_none}
 use Rattle.npp_inverse.proofs.BestLaws.{found_work, sum_work, other_work, best_tolls_are}
 use Rattle.npp_inverse.proofs.best.best_tolls_for.Goals as goal
 
@@ -53,3 +55,10 @@ pub returns-clause-work : goal.returns-clause-work
 returns-clause-work g c =
     let v = g.N.Exact.rational in
     other_work (limit_of g.N.Exact.WIDTH) c.args.table.now c.args.choice.now _ refl (ap (ending_of v) (sym c.in-Loud.is) ∙ c.in_ok-x.ensures.ending ∙ ap (program_work (limit_of g.N.Exact.WIDTH)) c.in_ok-program.ensures)
+
+pub returns-in-NoPoint-clause-zero_choice : goal.returns-in-NoPoint-clause-zero_choice
+returns-in-NoPoint-clause-zero_choice g c =
+    let v = g.N.Exact.rational in
+    let shown = subst (λ (w : Work g.row.N.Denot). IsProvedEnding (linear_program v c.in_ok-program.program) (ending_of v w)) c.in-NoPoint.is c.in_ok-x.ensures.proved in
+    let answer = subst (λ (p : LinearProgram). IsFarkasAnswer p (map v c.in-NoPoint.y.items)) c.in_ok-program.ensures shown in
+    λ net model zeros. not_none net c.args.table.now c.args.choice.now model c.requires.choice zeros (map v c.in-NoPoint.y.items) answer

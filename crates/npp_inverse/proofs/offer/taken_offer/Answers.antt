@@ -1,5 +1,4 @@
-use Rattle.std.proofs.Common.{◌≡◌, ◌<◌, ◌+◌, length, map, refl, sym, ap, subst, arith}
-use Rattle.std.proofs.lemmas.List.{length-map}
+use Rattle.std.proofs.Common.{◌≡◌, ◌<◌, ◌+◌, map, refl, sym, subst, arith}
 use Rattle.npp_frac.specs.Fits.{limit_of}
 use Rattle.npp_rows.specs.PathModel.{path_count}
 use Rattle.npp_inverse.specs.declared.offer.Offer.{Offer}
@@ -19,7 +18,7 @@ loop-path-init g c =
 
 pub returns-in_err-next-clause-fits : goal.returns-in_err-next-clause-fits
 returns-in_err-next-clause-fits g c =
-    let inside : c.loop-path.path < path_count c.args.table.now c.args.k = omega (arith, simp length-map at (ap length c.paths.ensures.paths), c.loop-path-test.true) in
+    let inside : c.loop-path.path < path_count c.args.table.now c.args.k = omega (arith, c.path_count-path-end.ensures, c.loop-path-test.true) in
     refused_as c.from_residual-in_err-next.result _ c.from_residual-in_err-next.ensures.0
     (path_stops (limit_of g.N.Exact.WIDTH) c.args.table.now (map g.N.Exact.rational c.args.tolls.now) c.args.k c.loop-path.path inside c.in_err-next.ensures.fits)
 
@@ -38,15 +37,15 @@ loop-path-preserved g c =
 
 pub returns-clause-fits : goal.returns-clause-fits
 returns-clause-fits g c =
-    let all : c.loop-path.path ≡ path_count c.args.table.now c.args.k = omega (arith, simp length-map at (ap length c.paths.ensures.paths), c.loop-path-test.false, c.loop-path.auto.path-end, c.requires.useful.some c.args.k c.requires.k) in
+    let all : c.loop-path.path ≡ path_count c.args.table.now c.args.k = omega (arith, c.path_count-path-end.ensures, c.loop-path-test.false, c.loop-path.auto.path-end, c.requires.useful.some c.args.k c.requires.k) in
     all_fit (limit_of g.N.Exact.WIDTH) c.args.table.now (map g.N.Exact.rational c.args.tolls.now) c.args.k c.loop-path.path _ _ _ c.loop-path.invariant all
 
 pub returns-clause-path : goal.returns-clause-path
 returns-clause-path g c =
-    let all : c.loop-path.path ≡ path_count c.args.table.now c.args.k = omega (arith, simp length-map at (ap length c.paths.ensures.paths), c.loop-path-test.false, c.loop-path.auto.path-end, c.requires.useful.some c.args.k c.requires.k) in
+    let all : c.loop-path.path ≡ path_count c.args.table.now c.args.k = omega (arith, c.path_count-path-end.ensures, c.loop-path-test.false, c.loop-path.auto.path-end, c.requires.useful.some c.args.k c.requires.k) in
     path_taken (limit_of g.N.Exact.WIDTH) c.args.table.now (map g.N.Exact.rational c.args.tolls.now) c.args.k c.loop-path.path _ _ _ c.loop-path.invariant all
 
 pub returns-clause-toll : goal.returns-clause-toll
 returns-clause-toll g c =
-    let all : c.loop-path.path ≡ path_count c.args.table.now c.args.k = omega (arith, simp length-map at (ap length c.paths.ensures.paths), c.loop-path-test.false, c.loop-path.auto.path-end, c.requires.useful.some c.args.k c.requires.k) in
+    let all : c.loop-path.path ≡ path_count c.args.table.now c.args.k = omega (arith, c.path_count-path-end.ensures, c.loop-path-test.false, c.loop-path.auto.path-end, c.requires.useful.some c.args.k c.requires.k) in
     toll_taken (limit_of g.N.Exact.WIDTH) c.args.table.now (map g.N.Exact.rational c.args.tolls.now) c.args.k c.loop-path.path _ _ _ c.loop-path.invariant all

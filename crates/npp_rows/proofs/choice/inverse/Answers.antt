@@ -1,4 +1,6 @@
+use Rattle.std.proofs.Common.{refl}
 use Rattle.npp_rows.specs.Caps.{path_model}
+use Rattle.npp_rows.proofs.ExactLaws.{inverse_is_exact}
 use Rattle.npp_rows.proofs.InverseLaws.{inverse_holds}
 use Rattle.npp_rows.proofs.choice.inverse.Goals as goal
 
@@ -7,3 +9,9 @@ returns-clause-holds g c = λ parts same. inverse_holds c.args.instance.now (pat
 
 pub returns-in_err-table-clause-holds : goal.returns-in_err-table-clause-holds
 returns-in_err-table-clause-holds g c = λ parts same. inverse_holds c.args.instance.now (path_model c.args.instance.now c.args.covers.now) parts
+
+pub returns-clause-exact : goal.returns-clause-exact
+returns-clause-exact g c = inverse_is_exact c.args.instance.now (path_model c.args.instance.now c.args.covers.now) c.args.choice.now (record { covers = c.requires.covers; same = refl }) c.requires.choice
+
+pub returns-in_err-table-clause-exact : goal.returns-in_err-table-clause-exact
+returns-in_err-table-clause-exact g c = inverse_is_exact c.args.instance.now (path_model c.args.instance.now c.args.covers.now) c.args.choice.now (record { covers = c.requires.covers; same = refl }) c.requires.choice
