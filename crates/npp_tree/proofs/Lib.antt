@@ -6,3 +6,8 @@ pub mod DivideLaws
 pub mod TreeLaws
 pub mod LeafLaws
 pub mod GraftLaws
+pub mod KeyedLaws
+pub mod ArenaLaws
+pub mod HeldLaws
+pub mod FreezeLaws
+pub mod PlacedLaws

@@ -6,6 +6,7 @@
 #![tactic(auto)]
 
 mod bound;
+mod grow;
 mod item;
 mod node;
 mod outcome;
@@ -14,6 +15,7 @@ mod point;
 mod tests;
 
 pub use bound::{Bound, bound_of};
+pub use grow::GrowTree;
 pub use item::Item;
 pub use node::{Branch, CertNode, CertTree, Evidence};
 pub use outcome::{Outcome, Pair, PathLine, Status};

@@ -1,0 +1,2 @@
+pub mod Picker
+pub mod PickerLaws
