@@ -1,0 +1,10 @@
+pub mod PositiveLaws
+pub mod PartLaws
+pub mod RayLaws
+pub mod PointLaws
+pub mod AnswerLaws
+pub mod WorkLaws
+pub mod LeafLaws
+pub mod TollLaws
+pub mod FoundLaws
+pub mod ResultLaws

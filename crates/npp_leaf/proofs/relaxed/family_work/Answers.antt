@@ -1,0 +1,41 @@
+use Rattle.std.proofs.Common.{◌≡◌, map, ap, ◌∙◌, subst}
+use Rattle.npp_frac.specs.Fits.{limit_of}
+use Rattle.npp_lp.specs.Programs.{LinearProgram, IsRay}
+use Rattle.npp_lp.specs.Meaning.{linear_program}
+use Rattle.npp_rows.specs.Meaning.{cut_value}
+use Rattle.npp_rows.specs.Relax.{relaxation}
+use Rattle.npp_inverse.specs.Work.{IsProvedEnding}
+use Rattle.npp_inverse.specs.Tolls.{ending_of}
+use Rattle.npp_simplex.proofs.Refining.{if_ok}
+use Rattle.npp_leaf.specs.Found.{found_value, relaxation_found}
+use Rattle.npp_leaf.specs.Work.{family_work}
+use Rattle.npp_leaf.proofs.RayLaws.{no_ray}
+use Rattle.npp_leaf.proofs.FoundLaws.{large_found, run_found}
+use Rattle.npp_leaf.proofs.relaxed.family_work.Goals as goal
+
+pub returns-in-Err-Large : goal.returns-in-Err-Large
+returns-in-Err-Large g c =
+    ap (found_value g.N.Exact.rational) c.marked.ensures
+    ∙ large_found (limit_of g.N.Exact.WIDTH) c.args.index.now.paths c.args.index.now.parts (map (cut_value g.N.Exact.rational) c.args.cuts.now) c.in-Err-Large.field-0 c.in-Err-Large.field-0-is c.in-Err-Large.ensures.large
+
+pub work_on-requires : goal.work_on-requires
+work_on-requires g c = record {
+  bounded = λ d ray.
+      no_ray c.args.index.now.paths c.args.index.now.parts (map (cut_value g.N.Exact.rational) c.args.cuts.now) d (subst (λ (p : LinearProgram). IsRay p d) c.in-Ok.ensures.program ray);
+}
+
+pub found_by-requires-clause-proved : goal.found_by-requires-clause-proved
+found_by-requires-clause-proved g c =
+    subst (λ (p : LinearProgram). IsProvedEnding p (ending_of g.N.Exact.rational c.in_ok-work.work)) c.in-Ok.ensures.program c.in_ok-work.ensures.proved
+
+pub returns : goal.returns
+returns g c =
+    let v = g.N.Exact.rational in
+    let m = c.args.index.now.paths in
+    let parts = c.args.index.now.parts in
+    let cuts = map (cut_value v) c.args.cuts.now in
+    if_ok c.found_by.result
+    (λ w. found_value v w ≡ relaxation_found m parts (relaxation m parts cuts).rows (ending_of v c.in_ok-work.work))
+    (λ w. found_value v w ≡ family_work (limit_of g.N.Exact.WIDTH) m parts cuts)
+    (λ w e. e ∙ run_found (limit_of g.N.Exact.WIDTH) m parts cuts (linear_program v c.in-Ok.program) (ending_of v c.in_ok-work.work) c.in-Ok.ensures.large c.in-Ok.ensures.program c.in_ok-work.ensures.ending)
+    c.found_by.ensures

@@ -1,0 +1,5 @@
+pub mod PositiveMultipliers
+pub mod Found
+pub mod Work
+pub mod Passes
+pub mod FoundTolls

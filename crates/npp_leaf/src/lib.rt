@@ -1,0 +1,13 @@
+//! The evidence of a node: what the exact work on its program proves of the outcomes that take its paths.
+#![tactic(auto)]
+
+mod choice;
+mod family;
+mod node;
+mod point;
+mod positive;
+mod relaxed;
+mod work;
+
+pub use node::{evidence, evidence_for};
+pub use work::LeafWork;
