@@ -1,0 +1,4 @@
+pub mod ByteLemmas
+pub mod TextLemmas
+pub mod ReadingLemmas
+pub mod LineLaws

@@ -1,0 +1,3 @@
+pub mod Allowed
+pub mod TollsText
+pub mod Refused
