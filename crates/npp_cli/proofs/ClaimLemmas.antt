@@ -6,13 +6,12 @@ use Rattle.npp_net.specs.Network.{Network, no_commodity}
 use Rattle.npp_reader.specs.declared.document.Document.{Document}
 use Rattle.npp_reader.specs.declared.refusal.ReadRefusal.{ReadRefusal}
 use Rattle.npp_cli.specs.declared.words.FileJob.{FileJob}
-use Rattle.npp_cli.specs.declared.words.FileJob.TheVariants.{Solve, Bounds, Paths}
 use Rattle.npp_cli.specs.Words.{Job, on_file, generate, job_of}
 use Rattle.npp_reader.specs.Canonical.{canonical_text}
 use Rattle.npp_cli.specs.Generated.{generated}
 use Rattle.npp_cli.specs.Texts.{too_long_text, usage_text}
 use Rattle.npp_cli.specs.Answers.{IsDone, AnswersInstance, AnswersFault, AnswersBytes, AnswersContent, AnswersFile, AnswersJob, AnswersNumber, Answers, instance_limit}
-use Rattle.npp_cli.specs.Claims.{IsGiven, IsAsked, NothingFailed, WasWritten, Prints, PrintsAbout, PrintsReport, PrintsBounds, PrintsPaths}
+use Rattle.npp_cli.specs.Claims.{IsGiven, IsAsked, NothingFailed, WasWritten, Prints, PrintsAbout, PrintsDone}
 use Rattle.npp_cli.specs.Runs.{Runs}
 use Rattle.npp_cli.proofs.StatusLemmas.{other_2, no_shelf_2, file_status}
 
@@ -33,7 +32,7 @@ module _ (job : FileJob) (status : ℕ) (text : List ℕ) where
   done_of words held net given (inl refused) = absurd (given.connected refused.0 no_commodity refused.1.0 refused.1.1)
   done_of words held net given (inr done) = done.1
 
-  pub given_done : (words : List (List ℕ)) (held : Option Files) (net : Network) → IsGiven job words held net → status ≢ 5
+  given_done : (words : List (List ℕ)) (held : Option Files) (net : Network) → IsGiven job words held net → status ≢ 5
       → Answers words held status text → IsDone job net status text
   given_done words held net given not_5 answers =
       let OfJob : Option Job → Type 0 = λ j. AnswersJob j held status text in
@@ -46,25 +45,11 @@ module _ (job : FileJob) (status : ℕ) (text : List ℕ) where
       let on_bytes = short_bytes given.name given.bytes given.short (subst OfFile given.is_held content) in
       done_of words held net given (subst OfReading given.stands_for on_bytes)
 
-pub prints_report : (words : List (List ℕ)) (held : Option Files) (old new : Option (List ℕ)) (status : ℕ) → Runs words held old new status
-    → (net : Network) → IsGiven Solve words held net → NothingFailed status → PrintsReport net old new status
-prints_report words held old new status runs net given nothing =
+pub prints_done : (words : List (List ℕ)) (held : Option Files) (old new : Option (List ℕ)) (status : ℕ) → Runs words held old new status
+    → (job : FileJob) (net : Network) → IsGiven job words held net → NothingFailed status → PrintsDone job net old new status
+prints_done words held old new status runs job net given nothing =
     let whole = runs.whole nothing.sink nothing.memory in
-    let solved = given_done Solve status whole.0 words held net given nothing.shelf whole.1 in
-    record { report = solved.report; is_report = solved.is_report; grew = rw solved.is_text at whole.2; is_status = solved.is_status }
-
-pub prints_bounds : (words : List (List ℕ)) (held : Option Files) (old new : Option (List ℕ)) (status : ℕ) → Runs words held old new status
-    → (net : Network) → IsGiven Bounds words held net → NothingFailed status → PrintsBounds net old new status
-prints_bounds words held old new status runs net given nothing =
-    let whole = runs.whole nothing.sink nothing.memory in
-    let bounded = given_done Bounds status whole.0 words held net given nothing.shelf whole.1 in
-    record { spans = bounded.spans; are_spans = bounded.are_spans; grew = rw bounded.is_text at whole.2; is_status = bounded.is_status }
-
-pub prints_paths : (words : List (List ℕ)) (held : Option Files) (old new : Option (List ℕ)) (status : ℕ) → Runs words held old new status
-    → (net : Network) → IsGiven Paths words held net → NothingFailed status → PrintsPaths net old new status
-prints_paths words held old new status runs net given nothing =
-    let whole = runs.whole nothing.sink nothing.memory in
-    record { text = whole.0; says = given_done Paths status whole.0 words held net given nothing.shelf whole.1; grew = whole.2 }
+    record { text = whole.0; says = given_done job status whole.0 words held net given nothing.shelf whole.1; grew = whole.2 }
 
 usage_of : (status : ℕ) (text : List ℕ) (held : Option Files) (job : Option Job) → job ≡ None → AnswersJob job held status text → (status ≡ 2) × (text ≡ usage_text)
 usage_of status text held job none answers = let OfJob : Option Job → Type 0 = λ j. AnswersJob j held status text in subst OfJob none answers

@@ -1,5 +1,5 @@
 -- A list that grows element by element.
-use Rattle.std.proofs.Common.{◌≡◌, ℕ, zero, suc, add-zero, add-one, zero-add, String, string_bytes, ◌+◌, ◌<◌, List, [], ◌∷◌, ◌++◌, length, take, map, get_or, flat_map, refl, ◌∙◌, ap, arith, append_assoc}
+use Rattle.std.proofs.Common.{◌≡◌, ℕ, zero, suc, add-zero, add-one, zero-add, String, string_bytes, ◌+◌, ◌<◌, List, [], ◌∷◌, ◌++◌, length, take, map, get_or, flat_map, refl, ◌∙◌, ap, arith}
 use Rattle.std.specs.List.{range_with_len}
 use Rattle.std.specs.declared.alloc.Global.{Global}
 use Rattle.std.proofs.lemmas.Grind.{common_steps, flat_map-append}
@@ -7,10 +7,6 @@ use Rattle.std.proofs.lemmas.List.{take_more}
 use Rattle.std.proofs.lemmas.List.FromFn.{map-range_with_len_more}
 use Rattle.npp_reader.specs.Names.{texts}
 use Rattle.npp_cli.specs.Generated.{first_numbers}
-
--- what has grown by some elements grows by more
-pub grown_by_more : {X : Type 0} (old done more all now new : List X) → now ≡ old ++ done → new ≡ now ++ more → all ≡ done ++ more → new ≡ old ++ all
-grown_by_more old done more all now new before after joined = grind (arith, common_steps, append_assoc old done more)
 
 pub map_first_more : {X : Type 0} (f : ℕ → X) (n : ℕ) → map f (first_numbers (n + 1)) ≡ map f (first_numbers n) ++ f n ∷ []
 map_first_more f n = map-range_with_len_more f 0 n n (omega arith)

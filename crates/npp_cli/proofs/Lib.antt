@@ -4,8 +4,6 @@ pub mod GeneratedLimits
 pub mod GeneratedNames
 pub mod Growth
 pub mod JobLemmas
-pub mod NumberedLines
-pub mod PlainLemmas
 pub mod RunLemmas
 pub mod StatusLemmas
 pub mod Taking

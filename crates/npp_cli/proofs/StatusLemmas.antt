@@ -10,21 +10,25 @@ use Rattle.npp_cli.specs.declared.words.FileJob.{FileJob}
 use Rattle.npp_cli.specs.declared.words.FileJob.TheVariants.{Solve, Bounds, Paths}
 use Rattle.npp_labels.specs.declared.covers.CoversRefusal.{CoversRefusal}
 use Rattle.npp_labels.specs.declared.covers.CoversRefusal.TheVariants.{TooManyLabels, TooManyPaths}
+use Rattle.npp_tree.specs.declared.outcome.Status.{Status}
+use Rattle.npp_tree.specs.declared.outcome.Status.TheVariants.{Optimal, Budget, Overflow}
 use Rattle.npp_cli.specs.Texts.{too_long_text}
 use Rattle.npp_cli.specs.Listed.{AnswersLimit}
-use Rattle.npp_cli.specs.Answers.{IsDone, AnswersInstance, AnswersFault, AnswersBytes, AnswersContent, AnswersFile, instance_limit}
+use Rattle.npp_cli.specs.Answers.{exit_status, IsDone, AnswersInstance, AnswersFault, AnswersBytes, AnswersContent, AnswersFile, instance_limit}
 
 -- none of the statuses of an answer about the bytes of a file
 pub record IsOther (n : ℕ) : Type 0 where
   pub not_0 : n ≢ 0
   pub not_1 : n ≢ 1
   pub not_3 : n ≢ 3
+  pub not_8 : n ≢ 8
   pub not_10 : n ≢ 10
   pub not_11 : n ≢ 11
 
-optimal_status : (n status : ℕ) → IsOther n → status ≡ n → (optimal : Bool) → status ≡ (if optimal then 0 else 1) → ⊥
-optimal_status n status other is true e = other.not_0 (sym is ∙ e)
-optimal_status n status other is false e = other.not_1 (sym is ∙ e)
+report_status : (n status : ℕ) → IsOther n → status ≡ n → (said : Status) → status ≡ exit_status said → ⊥
+report_status n status other is Optimal e = other.not_0 (sym is ∙ e)
+report_status n status other is Budget e = other.not_1 (sym is ∙ e)
+report_status n status other is Overflow e = other.not_8 (sym is ∙ e)
 
 limit_status : (n status : ℕ) → IsOther n → status ≡ n → (refusal : CoversRefusal) (text : List ℕ) → AnswersLimit refusal status text → ⊥
 limit_status n status other is (TooManyLabels k) text answers = other.not_11 (sym is ∙ answers.0)
@@ -32,7 +36,8 @@ limit_status n status other is (TooManyPaths k) text answers = other.not_11 (sym
 limit_status n status other is _ text answers = absurd answers
 
 done_status : (n status : ℕ) → IsOther n → status ≡ n → (job : FileJob) (net : Network) (text : List ℕ) → IsDone job net status text → ⊥
-done_status n status other is Solve net text done = optimal_status n status other is done.report.optimal done.is_status
+done_status n status other is Solve net text (inl solved) = report_status n status other is solved.report.status solved.is_status
+done_status n status other is Solve net text (inr over) = limit_status n status other is over.refusal text over.answers
 done_status n status other is Bounds net text done = other.not_0 (sym is ∙ done.is_status)
 done_status n status other is Paths net text (inl listed) = other.not_0 (sym is ∙ listed.is_status)
 done_status n status other is Paths net text (inr over) = limit_status n status other is over.refusal text over.answers
@@ -51,10 +56,10 @@ pub bytes_status : (n status : ℕ) → IsOther n → status ≡ n → (job : Fi
 bytes_status n status other is job bytes text answers = read_status n status other is job text (reading_of bytes) answers
 
 pub other_6 : IsOther 6
-other_6 = record { not_0 = λ e. omega (arith, e); not_1 = λ e. omega (arith, e); not_3 = λ e. omega (arith, e); not_10 = λ e. omega (arith, e); not_11 = λ e. omega (arith, e) }
+other_6 = record { not_0 = λ e. omega (arith, e); not_1 = λ e. omega (arith, e); not_3 = λ e. omega (arith, e); not_8 = λ e. omega (arith, e); not_10 = λ e. omega (arith, e); not_11 = λ e. omega (arith, e) }
 
 pub other_7 : IsOther 7
-other_7 = record { not_0 = λ e. omega (arith, e); not_1 = λ e. omega (arith, e); not_3 = λ e. omega (arith, e); not_10 = λ e. omega (arith, e); not_11 = λ e. omega (arith, e) }
+other_7 = record { not_0 = λ e. omega (arith, e); not_1 = λ e. omega (arith, e); not_3 = λ e. omega (arith, e); not_8 = λ e. omega (arith, e); not_10 = λ e. omega (arith, e); not_11 = λ e. omega (arith, e) }
 
 -- none of the statuses of the shelf
 pub record IsNoShelfStatus (n : ℕ) : Type 0 where
@@ -80,7 +85,7 @@ file_status n status other none is job (Some files) name text (inl failed) = non
 file_status n status other none is job (Some files) name text (inr answers) = content_status n status other none is job name text (file_at files name) answers
 
 pub other_2 : IsOther 2
-other_2 = record { not_0 = λ e. omega (arith, e); not_1 = λ e. omega (arith, e); not_3 = λ e. omega (arith, e); not_10 = λ e. omega (arith, e); not_11 = λ e. omega (arith, e) }
+other_2 = record { not_0 = λ e. omega (arith, e); not_1 = λ e. omega (arith, e); not_3 = λ e. omega (arith, e); not_8 = λ e. omega (arith, e); not_10 = λ e. omega (arith, e); not_11 = λ e. omega (arith, e) }
 
 pub no_shelf_2 : IsNoShelfStatus 2
 no_shelf_2 = record { not_4 = λ e. omega (arith, e); not_5 = λ e. omega (arith, e); not_12 = λ e. omega (arith, e) }

@@ -1,5 +1,5 @@
 -- Which status and which text answer the words, given what the shelf holds.
-use Rattle.std.specs.Prelude.{◌≡◌, ◌⊎◌, ℕ, nat_lt, List, length, Option, None, Some, MatchBool, MatchResult, if◌then◌else◌}
+use Rattle.std.specs.Prelude.{◌≡◌, ◌⊎◌, ℕ, nat_lt, List, length, Option, None, Some, MatchBool, MatchResult}
 use Rattle.npp_outside.specs.Shelf.{Files, file_at}
 use Rattle.npp_net.specs.declared.types.Span.{Span}
 use Rattle.npp_net.specs.Network.{Network}
@@ -14,8 +14,11 @@ use Rattle.npp_cli.specs.declared.words.FileJob.{FileJob}
 use Rattle.npp_cli.specs.declared.words.FileJob.TheVariants.{Solve, Bounds, Paths}
 use Rattle.npp_cli.specs.Words.{Job, on_file, generate, job_of}
 use Rattle.npp_cli.specs.Generated.{generated}
-use Rattle.npp_cli.specs.Printed.{PrintedReport, report_text}
-use Rattle.npp_cli.specs.Headline.{IsReportOf}
+use Rattle.npp_labels.specs.Covers.{PassesNoLimit}
+use Rattle.npp_tree.specs.declared.outcome.Status.{Status}
+use Rattle.npp_tree.specs.declared.outcome.Status.TheVariants.{Optimal, Budget, Overflow}
+use Rattle.npp_report.specs.Report.{ReportValue, report_text}
+use Rattle.npp_cli.specs.Headline.{IsReportOf, IsFirstReport}
 use Rattle.npp_cli.specs.SpansText.{spans_text}
 use Rattle.npp_cli.specs.Listed.{IsListed, IsOverLimit}
 use Rattle.npp_cli.specs.Texts.{usage_text, missing_text, shelf_fault_text, too_long_text, faulty_line_text, no_free_path_text}
@@ -24,12 +27,20 @@ use Rattle.npp_cli.specs.Texts.{usage_text, missing_text, shelf_fault_text, too_
 abbrev pub instance_limit : ℕ
 instance_limit = 4194304
 
--- a report of the instance, with status 0 where it is optimal and 1 where it is not
+-- the status of the program for that of a report
+abbrev pub exit_status : Status → ℕ
+exit_status Optimal = 0
+exit_status Budget = 1
+exit_status Overflow = 8
+
+-- no limit is passed, and the text is the report of the zero choice, which is true of the instance
 pub record IsSolved (net : Network) (status : ℕ) (text : List ℕ) : Type 0 where
-  pub report : PrintedReport
+  pub report : ReportValue
   pub is_report : IsReportOf net report
-  pub is_text : text ≡ report_text report
-  pub is_status : status ≡ (if report.optimal then 0 else 1)
+  pub is_first : IsFirstReport net report
+  pub kept : PassesNoLimit net.arcs net.commodities
+  pub is_text : text ≡ report_text net 64 report
+  pub is_status : status ≡ exit_status report.status
 
 -- the least costs of each commodity and the basic bound, with status 0
 pub record IsBounded (net : Network) (status : ℕ) (text : List ℕ) : Type 0 where
@@ -40,7 +51,7 @@ pub record IsBounded (net : Network) (status : ℕ) (text : List ℕ) : Type 0 w
 
 -- what a job says of an instance
 abbrev pub IsDone : FileJob → Network → ℕ → List ℕ → Type 0
-IsDone Solve net status text = IsSolved net status text
+IsDone Solve net status text = IsSolved net status text ⊎ IsOverLimit net status text
 IsDone Bounds net status text = IsBounded net status text
 IsDone Paths net status text = IsListed net status text ⊎ IsOverLimit net status text
 

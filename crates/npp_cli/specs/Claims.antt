@@ -1,18 +1,13 @@
 -- What a run owes where nothing stands in its way: the claims that a reader of the output can count on.
-use Rattle.std.specs.Prelude.{◌≡◌, ◌≢◌, ◌⊎◌, ℕ, ◌≤◌, List, length, Option, Some, Ok, if◌then◌else◌}
+use Rattle.std.specs.Prelude.{◌≡◌, ◌≢◌, ℕ, ◌≤◌, List, length, Option, Some, Ok}
 use Rattle.npp_outside.specs.Shelf.{Files, file_at}
 use Rattle.npp_outside.specs.Sink.{GrewBy}
-use Rattle.npp_net.specs.declared.types.Span.{Span}
 use Rattle.npp_net.specs.Network.{Network}
 use Rattle.npp_reader.specs.Reading.{reading_of}
-use Rattle.npp_bounds.specs.Spans.{AreSpans, AllHaveFreePaths, basic}
+use Rattle.npp_bounds.specs.Spans.{AllHaveFreePaths}
 use Rattle.npp_cli.specs.declared.words.FileJob.{FileJob}
 use Rattle.npp_cli.specs.Words.{on_file, job_of}
-use Rattle.npp_cli.specs.Printed.{PrintedReport, report_text}
-use Rattle.npp_cli.specs.SpansText.{spans_text}
-use Rattle.npp_cli.specs.Headline.{IsReportOf}
-use Rattle.npp_cli.specs.Listed.{IsListed, IsOverLimit}
-use Rattle.npp_cli.specs.Answers.{AnswersContent, instance_limit}
+use Rattle.npp_cli.specs.Answers.{IsDone, AnswersContent, instance_limit}
 
 -- the words ask for this job on a file that is held, whose bytes are few enough and stand for this network,
 -- and each commodity of it has a toll-free walk
@@ -44,24 +39,10 @@ pub record NothingFailed (status : ℕ) : Type 0 where
   pub sink : status ≢ 6
   pub memory : status ≢ 7
 
--- all that was written is a report that is true of the network; its status is 0 where it is optimal, and else 1
-pub record PrintsReport (net : Network) (old new : Option (List ℕ)) (status : ℕ) : Type 0 where
-  pub report : PrintedReport
-  pub is_report : IsReportOf net report
-  pub grew : GrewBy old new (report_text report)
-  pub is_status : status ≡ (if report.optimal then 0 else 1)
-
--- all that was written are the least costs of each commodity and the basic bound, with status 0
-pub record PrintsBounds (net : Network) (old new : Option (List ℕ)) (status : ℕ) : Type 0 where
-  pub spans : List Span
-  pub are_spans : AreSpans net.arcs net.commodities spans
-  pub grew : GrewBy old new (spans_text spans (basic net.commodities spans))
-  pub is_status : status ≡ 0
-
--- all that was written are the useful paths of each commodity, with status 0; or the first limit that is passed, with status 11
-pub record PrintsPaths (net : Network) (old new : Option (List ℕ)) (status : ℕ) : Type 0 where
+-- all that was written is what the job says of the network, and the status is that of what it says
+pub record PrintsDone (job : FileJob) (net : Network) (old new : Option (List ℕ)) (status : ℕ) : Type 0 where
   pub text : List ℕ
-  pub says : IsListed net status text ⊎ IsOverLimit net status text
+  pub says : IsDone job net status text
   pub grew : GrewBy old new text
 
 -- all that was written is this text, and the status is this one

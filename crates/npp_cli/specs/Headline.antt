@@ -1,46 +1,50 @@
--- What a printed report has to be true of, and when an instance has to be solved.
-use Rattle.std.specs.Prelude.{◌≡◌, ◌↔◌, ◌≤◌, ℕ, pos, List, All, map, IsTrue}
-use Rattle.npp_net.specs.declared.types.ArcId.{ArcId}
-use Rattle.npp_net.specs.declared.types.NetArc.{NetArc}
-use Rattle.npp_net.specs.Network.{Network}
-use Rattle.npp_net.specs.Walk.{walk_cost}
-use Rattle.npp_net.specs.Toll.{TollVector, toll_paid}
-use Rattle.npp_net.specs.Outcome.{IsOutcome, IsEarned, IsUpperBound, revenue}
+-- What a printed report has to be true of, and which report `solve` prints.
+use Rattle.std.specs.Prelude.{◌≡◌, ◌≢◌, ℕ, pos, List}
+use Rattle.npp_frac.specs.Rational.{Rational, whole}
+use Rattle.npp_frac.specs.Fits.{limit_of}
 use Rattle.npp_net.specs.declared.types.Span.{Span}
+use Rattle.npp_net.specs.Network.{Network}
+use Rattle.npp_net.specs.Outcome.{IsUpperBound}
 use Rattle.npp_bounds.specs.Spans.{AreSpans, basic}
-use Rattle.npp_cli.specs.Printed.{PrintedPath, PrintedReport}
-
--- the printed tolls, which are whole numbers
-abbrev pub tolls_of : PrintedReport → TollVector
-tolls_of r = record { denominator = 1; numerators = r.tolls }
-
--- the printed walks
-abbrev pub walks_of : PrintedReport → List (List ArcId)
-walks_of r = map (λ (path : PrintedPath). path.arcs) r.paths
-
--- what is printed of a walk is what it costs and what it pays
-pub record IsPriced (arcs : List NetArc) (t : TollVector) (path : PrintedPath) : Type 0 where
-  pub cost : path.cost ≡ walk_cost arcs path.arcs
-  pub paid : path.paid ≡ toll_paid arcs t path.arcs
-
--- no cheapest walks under these tolls earn more
-abbrev pub EarnMost : Network → TollVector → List (List ArcId) → Type 0
-EarnMost net t walks = (others : List (List ArcId)) → IsOutcome net t others
-    → revenue net.arcs t net.commodities others ≤ revenue net.arcs t net.commodities walks
+use Rattle.npp_cover.specs.Replaces.{CoverValue}
+use Rattle.npp_labels.specs.Covers.{AreUsefulCovers}
+use Rattle.npp_rows.specs.Caps.{path_model}
+use Rattle.npp_rows.specs.Response.{reply}
+use Rattle.npp_tree.specs.declared.outcome.Status.{Status}
+use Rattle.npp_tree.specs.declared.outcome.Status.TheVariants.{Optimal, Budget, Overflow}
+use Rattle.npp_report.specs.Report.{ReportValue}
+use Rattle.npp_start.specs.Allowed.{AreAllowed}
+use Rattle.npp_start.specs.Start.{start_tolls}
+use Rattle.npp_start.specs.Walks.{IsReplyTo, reply_lines}
 
 -- the value is the basic bound of the network
-pub record IsBasicBound (net : Network) (value : ℕ) : Type 0 where
+pub record IsBasicBound (net : Network) (value : Rational) : Type 0 where
   pub spans : List Span
   pub are_spans : AreSpans net.arcs net.commodities spans
-  pub is_basic : value ≡ basic net.commodities spans
+  pub is_basic : value ≡ whole (pos (basic net.commodities spans))
 
--- the printed walks are cheapest under the printed tolls and earn exactly the lower value, which is the most that
--- cheapest walks earn under them; the upper value is the basic bound, and no tolls that keep the ceilings earn more; both
--- are equal exactly where it says optimal
-pub record IsReportOf (net : Network) (r : PrintedReport) : Type 0 where
-  pub earned : IsEarned net (tolls_of r) (walks_of r) (pos r.lower) 1
-  pub most : EarnMost net (tolls_of r) (walks_of r)
+-- optimal where the two values are equal, and else that the budget is used up
+abbrev pub IsStatusOf : Rational → Rational → Status → Type 0
+IsStatusOf lower upper Optimal = lower ≡ upper
+IsStatusOf lower upper Budget = lower ≢ upper
+IsStatusOf lower upper Overflow = ⊥
+
+-- the printed tolls are allowed, and the printed walks are the travellers' reply to them, which earns exactly the lower
+-- value; the upper value is the basic bound, and no tolls that keep the ceilings earn more; it says optimal exactly where
+-- both are equal
+pub record IsReportOf (net : Network) (r : ReportValue) : Type 0 where
+  pub allowed : AreAllowed net r.tolls
+  pub reply : IsReplyTo net r.tolls r.paths r.lower
   pub basic : IsBasicBound net r.upper
-  pub bounded : IsUpperBound net (pos r.upper) 1
-  pub optimal : IsTrue r.optimal ↔ (r.lower ≡ r.upper)
-  pub priced : All (IsPriced net.arcs (tolls_of r)) r.paths
+  pub bounded : IsUpperBound net r.upper.num r.upper.den
+  pub status : IsStatusOf r.lower r.upper r.status
+
+-- it is the report of the zero choice at 64 bits: its tolls are the first of a search, the walks and the lower value are
+-- those of the reply to them over useful covers, and no node is opened
+pub record IsFirstReport (net : Network) (r : ReportValue) : Type 0 where
+  pub covers : List CoverValue
+  pub are_useful : AreUsefulCovers net.arcs net.commodities covers
+  pub tolls : r.tolls ≡ start_tolls (limit_of 64) (path_model net covers)
+  pub paths : r.paths ≡ reply_lines (path_model net covers) (reply (path_model net covers) r.tolls)
+  pub lower : r.lower ≡ (reply (path_model net covers) r.tolls).revenue
+  pub opened : r.opened ≡ 0

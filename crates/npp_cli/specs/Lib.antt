@@ -1,4 +1,3 @@
-pub mod Printed
 pub mod Texts
 pub mod Words
 pub mod Generated
@@ -8,8 +7,6 @@ pub mod PathsText
 pub mod Listed
 pub mod Answers
 pub mod Taken
-pub mod Report
 pub mod Answer
-pub mod Plain
 pub mod Runs
 pub mod Claims

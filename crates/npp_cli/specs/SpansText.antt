@@ -2,7 +2,7 @@
 use Rattle.std.specs.Prelude.{ℕ, List, ◌∷◌, ◌++◌, codes}
 use Rattle.std.specs.Fmt.{decimal}
 use Rattle.npp_net.specs.declared.types.Span.{Span}
-use Rattle.npp_cli.specs.Printed.{line, numbered_lines}
+use Rattle.npp_report.specs.Lines.{line, numbered_lines}
 
 -- the least costs of commodity k: of a toll-free walk, and of any walk at zero tolls
 abbrev pub span_line : ℕ → Span → List ℕ

@@ -1,7 +1,7 @@
 -- The texts of refusals.
 use Rattle.std.specs.Prelude.{ℕ, List, ◌∷◌, ◌++◌, codes}
 use Rattle.std.specs.Fmt.{decimal}
-use Rattle.npp_cli.specs.Printed.{line}
+use Rattle.npp_report.specs.Lines.{line}
 
 abbrev pub usage_text : List ℕ
 usage_text =

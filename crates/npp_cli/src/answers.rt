@@ -1,8 +1,10 @@
 //! What is answered: a status, and the text that is written with it.
-ghost use Rattle.std.specs.Prelude.{IfOk};
+ghost use Rattle.std.specs.Prelude.{IfOk, string_bytes};
 ghost use Rattle.npp_cli.specs.Answer.{IsAnswer};
+ghost use Rattle.npp_cli.specs.Listed.{AnswersLimit};
 ghost use Rattle.npp_cli.specs.Texts.{usage_text, missing_text, shelf_fault_text, too_long_text, faulty_line_text, no_free_path_text, too_many_labels_text, too_many_paths_text};
 
+use npp_labels::CoversRefusal;
 use npp_net::Memory;
 use std::alloc::Global;
 
@@ -64,16 +66,27 @@ pub fn no_free_path(alloc: Global, k: u32) -> Result<Answer, Memory>
     Ok(Answer { status: 10, text })
 }
 
-/// This is the first commodity that passes a limit, and its useful labels are too many.
-pub fn too_many_labels(alloc: Global, k: u32) -> Result<Answer, Memory>
+/// A limit is passed.
+pub fn over_limit(alloc: Global, refusal: CoversRefusal) -> Result<Answer, Memory>
+    ensures { IfOk result (λ answer. AnswersLimit refusal answer.status (string_bytes answer.text)) }
+{
+    match refusal {
+        CoversRefusal::TooManyLabels(k) => too_many_labels(alloc, k),
+        CoversRefusal::TooManyPaths(k) => too_many_paths(alloc, k),
+        CoversRefusal::Memory => Err(Memory),
+    }
+}
+
+// This is the first commodity that passes a limit, and its useful labels are too many.
+fn too_many_labels(alloc: Global, k: u32) -> Result<Answer, Memory>
     ensures { IfOk result (IsAnswer 11 (too_many_labels_text k)) }
 {
     let text = format!(in alloc; "refused too-many-labels {k}\n")?;
     Ok(Answer { status: 11, text })
 }
 
-/// This is the first commodity that passes a limit, and the useful paths up to it are too many.
-pub fn too_many_paths(alloc: Global, k: u32) -> Result<Answer, Memory>
+// This is the first commodity that passes a limit, and the useful paths up to it are too many.
+fn too_many_paths(alloc: Global, k: u32) -> Result<Answer, Memory>
     ensures { IfOk result (IsAnswer 11 (too_many_paths_text k)) }
 {
     let text = format!(in alloc; "refused too-many-paths {k}\n")?;

@@ -5,7 +5,6 @@ mod answers;
 mod generator;
 mod paths;
 mod program;
-mod report;
 mod solve;
 mod spans;
 mod take;

@@ -4,44 +4,29 @@ ghost use Rattle.npp_net.specs.TollSets.{tolls_of};
 ghost use Rattle.npp_bounds.specs.Spans.{AreSpans};
 ghost use Rattle.npp_cover.specs.PathValue.{path_value};
 ghost use Rattle.npp_cli.specs.Answer.{IsAnswer};
-ghost use Rattle.npp_cli.specs.Answers.{AnswersInstance};
 ghost use Rattle.npp_cli.specs.Listed.{IsListed, IsOverLimit};
-ghost use Rattle.npp_cli.specs.Printed.{numbered_lines};
-ghost use Rattle.npp_cli.specs.PathsText.{paths_text, commodity_lines, useful_line, toll_fields};
+ghost use Rattle.npp_report.specs.Lines.{number_fields, numbered_lines};
+ghost use Rattle.npp_cli.specs.PathsText.{paths_text, commodity_lines, useful_line};
 
-use crate::answers::{Answer, no_free_path, too_many_labels, too_many_paths};
-use crate::report::write_arcs;
-use crate::words::FileJob;
-use npp_bounds::{BoundsRefusal, free_and_zero};
+use crate::answers::{Answer, over_limit};
 use npp_cover::{Cover, UsefulPath};
-use npp_labels::{CoversRefusal, useful_all};
+use npp_labels::useful_all;
 use npp_net::{Instance, Memory, Span, TollSet};
+use npp_report::write_arcs;
 use std::alloc::Global;
 use std::fmt::Write;
 
-/// The useful paths of each commodity, or the first commodity that has no toll-free walk, or else the first that passes
-/// a limit.
-pub fn paths(alloc: Global, instance: &Instance) -> Result<Answer, Memory>
-    ensures { IfOk result (λ answer. AnswersInstance FileJob.Paths instance.now answer.status (string_bytes answer.text)) }
-{
-    match free_and_zero(alloc, instance) {
-        Ok(spans) => within_limits(alloc, instance, &spans),
-        Err(BoundsRefusal::NoFreePath(k)) => no_free_path(alloc, k),
-        Err(BoundsRefusal::Memory) => Err(Memory),
-    }
-}
-
-// The text of the useful paths, or the first limit that is passed.
-fn within_limits(alloc: Global, instance: &Instance, spans: &[Span]) -> Result<Answer, Memory>
+/// The useful paths of each commodity, or the first commodity that passes a limit.
+///
+/// The spans are those of the instance, one for each commodity in order.
+pub fn paths(alloc: Global, instance: &Instance, spans: &[Span]) -> Result<Answer, Memory>
     requires { AreSpans instance.now.arcs instance.now.commodities spans.now }
     ensures { IfOk result (λ answer. IsListed instance.now answer.status (string_bytes answer.text)
         ⊎ IsOverLimit instance.now answer.status (string_bytes answer.text)) }
 {
     match useful_all(alloc, instance, spans) {
         Ok(covers) => listed(alloc, &covers),
-        Err(CoversRefusal::TooManyLabels(k)) => too_many_labels(alloc, k),
-        Err(CoversRefusal::TooManyPaths(k)) => too_many_paths(alloc, k),
-        Err(CoversRefusal::Memory) => Err(Memory),
+        Err(refusal) => over_limit(alloc, refusal),
     }
 }
 
@@ -97,7 +82,7 @@ fn write_path(text: &mut String, k: usize, q: usize, path: &UsefulPath) -> Resul
 
 // The toll numbers of the set, each after a space.
 fn write_tolls(text: &mut String, tolls: TollSet) -> Result<(), Memory>
-    ensures { OnOk result (string_bytes text.new ≡ string_bytes text.old ++ toll_fields (tolls_of tolls)) }
+    ensures { OnOk result (string_bytes text.new ≡ string_bytes text.old ++ number_fields (tolls_of tolls)) }
 {
     for toll in tolls.tolls() {
         write!(text, " {}", toll.0)?;

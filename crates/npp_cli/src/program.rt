@@ -3,22 +3,24 @@ ghost use Rattle.std.specs.Prelude.{◌≡◌, ℕ, List, None, Some, IfOk, stri
 ghost use Rattle.npp_outside.specs.Causes.{Rose};
 ghost use Rattle.npp_outside.specs.Shelf.{Files, file_at};
 ghost use Rattle.npp_net.specs.Network.{Network};
+ghost use Rattle.npp_bounds.specs.Spans.{AreSpans};
 ghost use Rattle.npp_reader.specs.Canonical.{canonical_text};
 ghost use Rattle.npp_cli.specs.Generated.{generated};
 ghost use Rattle.npp_cli.specs.Texts.{usage_text};
 ghost use Rattle.npp_cli.specs.Words.{texts, job_of, generate};
-ghost use Rattle.npp_cli.specs.Answers.{Answers, AnswersFile, AnswersBytes, instance_limit};
-ghost use Rattle.npp_cli.specs.Claims.{IsGiven, IsAsked, NothingFailed, WasWritten, Prints, PrintsAbout, PrintsReport, PrintsBounds, PrintsPaths};
+ghost use Rattle.npp_cli.specs.Answers.{Answers, AnswersFile, AnswersBytes, AnswersInstance, IsDone};
+ghost use Rattle.npp_cli.specs.Claims.{IsGiven, IsAsked, NothingFailed, WasWritten, Prints, PrintsAbout, PrintsDone};
 ghost use Rattle.npp_cli.specs.Runs.{Runs, HasAnswerCause};
 
-use crate::answers::{Answer, faulty_line, missing, shelf_fault, too_long, usage};
+use crate::answers::{Answer, faulty_line, missing, no_free_path, shelf_fault, too_long, usage};
 use crate::generator::answer_on_number;
 use crate::paths::paths;
 use crate::solve::solve;
 use crate::spans::bounds;
 use crate::take::{TakeRefusal, take_file};
 use crate::words::{Command, FileJob, command_of};
-use npp_net::Memory;
+use npp_bounds::{BoundsRefusal, free_and_zero};
+use npp_net::{Instance, Memory, Span};
 use npp_outside::{Shelf, Sink, SinkAnswer, write_whole};
 use npp_reader::{ReadRefusal, read};
 use std::alloc::Global;
@@ -39,12 +41,8 @@ pub fn run<S: Shelf, O: Sink>(alloc: Global, words: &[String], shelf: &mut S, ou
     ensures sink { result ≡ 6 → Rose (O.faults out.old) (O.faults out.new) }
 
     // What is printed of an instance is true of all walks and of all tolls.
-    ensures headline { (net : Network) → IsGiven FileJob.Solve (texts words.now) (S.held shelf.old) net
-        → NothingFailed result → PrintsReport net (O.written out.old) (O.written out.new) result }
-    ensures bounds { (net : Network) → IsGiven FileJob.Bounds (texts words.now) (S.held shelf.old) net
-        → NothingFailed result → PrintsBounds net (O.written out.old) (O.written out.new) result }
-    ensures paths { (net : Network) → IsGiven FileJob.Paths (texts words.now) (S.held shelf.old) net
-        → NothingFailed result → PrintsPaths net (O.written out.old) (O.written out.new) result }
+    ensures headline { (job : FileJob) (net : Network) → IsGiven job (texts words.now) (S.held shelf.old) net
+        → NothingFailed result → PrintsDone job net (O.written out.old) (O.written out.new) result }
 
     // Each answer comes exactly by its cause, and its text is all that is written.
     ensures on_file { (job : FileJob) (name : List ℕ) (files : Files) → IsAsked job name files (texts words.now) (S.held shelf.old)
@@ -106,12 +104,31 @@ fn answer_on_bytes(alloc: Global, job: FileJob, bytes: &[u8]) -> Result<Answer, 
     ensures { IfOk result (λ answer. AnswersBytes job bytes.now answer.status (string_bytes answer.text)) }
 {
     match read(alloc, bytes) {
-        Ok(document) => match job {
-            FileJob::Solve => solve(alloc, &document.instance),
-            FileJob::Bounds => bounds(alloc, &document.instance),
-            FileJob::Paths => paths(alloc, &document.instance),
-        },
+        Ok(document) => answer_on_instance(alloc, job, &document.instance),
         Err(ReadRefusal::Line { line, kind }) => faulty_line(alloc, line, kind.word()),
         Err(ReadRefusal::Memory) => Err(Memory),
+    }
+}
+
+// The answer to a job for an instance.
+fn answer_on_instance(alloc: Global, job: FileJob, instance: &Instance) -> Result<Answer, Memory>
+    ensures { IfOk result (λ answer. AnswersInstance job instance.now answer.status (string_bytes answer.text)) }
+{
+    match free_and_zero(alloc, instance) {
+        Ok(spans) => done(alloc, job, instance, &spans),
+        Err(BoundsRefusal::NoFreePath(k)) => no_free_path(alloc, k),
+        Err(BoundsRefusal::Memory) => Err(Memory),
+    }
+}
+
+// What the job says of the instance, whose spans these are.
+fn done(alloc: Global, job: FileJob, instance: &Instance, spans: &[Span]) -> Result<Answer, Memory>
+    requires { AreSpans instance.now.arcs instance.now.commodities spans.now }
+    ensures { IfOk result (λ answer. IsDone job instance.now answer.status (string_bytes answer.text)) }
+{
+    match job {
+        FileJob::Solve => solve(alloc, instance, spans),
+        FileJob::Bounds => bounds(alloc, instance, spans),
+        FileJob::Paths => paths(alloc, instance, spans),
     }
 }

@@ -1,85 +1,103 @@
-//! The job `solve`: zero tolls with cheapest walks, which earn nothing, and the basic bound.
-ghost use Rattle.std.specs.Prelude.{◌≡◌, ℕ, IfOk, pos, map, replicate, string_bytes};
-ghost use Rattle.std.specs.List.{zip};
-ghost use Rattle.npp_net.specs.Outcome.{IsUpperBound};
-ghost use Rattle.npp_bounds.specs.Spans.{basic};
-ghost use Rattle.npp_cli.specs.Answers.{AnswersInstance, IsSolved};
-ghost use Rattle.npp_cli.specs.Headline.{IsReportOf};
-ghost use Rattle.npp_cli.specs.Report.{printed};
-ghost use Rattle.npp_cli.specs.Plain.{AreLeast, plain_path};
+//! The job `solve`: the best tolls of the zero choice with the travellers' reply to them, and the basic bound.
+ghost use Rattle.std.specs.Prelude.{◌≡◌, ◌⊎◌, ◌≤◌, IfOk, string_bytes};
+ghost use Rattle.npp_frac.specs.Wide.{value_of_wide};
+ghost use Rattle.npp_frac.specs.Narrow.{value_of_64};
+ghost use Rattle.npp_bounds.specs.Spans.{AreSpans};
+ghost use Rattle.npp_labels.specs.Covers.{AreUsefulCovers, PassesNoLimit, path_total};
+ghost use Rattle.npp_report.specs.Report.{report_value};
+ghost use Rattle.npp_cli.specs.Answers.{IsSolved, exit_status};
+ghost use Rattle.npp_cli.specs.Headline.{IsReportOf, IsFirstReport, IsStatusOf};
+ghost use Rattle.npp_cli.specs.Listed.{IsOverLimit};
 
-use crate::answers::{Answer, no_free_path};
-use crate::report::{Path, Report, text_of};
-use crate::words::FileJob;
-use npp_bounds::{BoundsRefusal, LeastCosts, basic_bound, least_costs};
-use npp_net::{Instance, Memory};
-use std::alloc::{AllocError, Global};
+use crate::answers::{Answer, over_limit};
+use npp_cover::Cover;
+use npp_frac::{Exact, Frac64, Frac128};
+use npp_labels::useful_all;
+use npp_net::{Instance, Listed, Memory, Span};
+use npp_report::{Report, report_text};
+use npp_start::{Start, find_start, upper_value, walks_of_reply};
+use npp_tree::Status;
+use std::alloc::Global;
+use std::cmp::Ordering;
 
-/// The report of an instance, or the first commodity that has no toll-free walk.
-pub fn solve(alloc: Global, instance: &Instance) -> Result<Answer, Memory>
-    ensures { IfOk result (λ answer. AnswersInstance FileJob.Solve instance.now answer.status (string_bytes answer.text)) }
+/// The report of an instance, or the first limit that is passed.
+///
+/// The spans are those of the instance, one for each commodity in order.
+pub fn solve(alloc: Global, instance: &Instance, spans: &[Span]) -> Result<Answer, Memory>
+    requires { AreSpans instance.now.arcs instance.now.commodities spans.now }
+    ensures { IfOk result (λ answer. IsSolved instance.now answer.status (string_bytes answer.text)
+        ⊎ IsOverLimit instance.now answer.status (string_bytes answer.text)) }
 {
-    match least_costs(alloc, instance) {
-        Ok(least) => solved(alloc, instance, least),
-        Err(BoundsRefusal::NoFreePath(k)) => no_free_path(alloc, k),
-        Err(BoundsRefusal::Memory) => Err(Memory),
+    match useful_all(alloc, instance, spans) {
+        Ok(covers) => solved(alloc, instance, spans, &covers),
+        Err(refusal) => over_limit(alloc, refusal),
     }
 }
 
 // The text and the status of the report.
-fn solved(alloc: Global, instance: &Instance, least: LeastCosts) -> Result<Answer, Memory>
-    requires { AreLeast instance.now least }
+fn solved(
+    alloc: Global,
+    instance: &Instance,
+    spans: &[Span],
+    covers: &[Cover],
+) -> Result<Answer, Memory>
+    requires spans { AreSpans instance.now.arcs instance.now.commodities spans.now }
+    requires covers { AreUsefulCovers instance.now.arcs instance.now.commodities covers.now }
+    requires few { path_total covers.now ≤ 2000 }
+    requires kept { PassesNoLimit instance.now.arcs instance.now.commodities }
     ensures { IfOk result (λ answer. IsSolved instance.now answer.status (string_bytes answer.text)) }
 {
-    let upper = basic_bound(instance, &least.spans);
-    let report = plain_report(alloc, instance, least, upper)?;
-    let text = text_of(alloc, &report)?;
-    let status = if report.lower == report.upper { 0 } else { 1 };
+    let report = first_report(alloc, instance, spans, covers)?;
+    let text = report_text(alloc, instance, &report)?;
+    let status = exit_status(report.status);
     Ok(Answer { status, text })
 }
 
-// The report of zero tolls with walks that are cheapest then, and of the basic bound as the upper value.
-fn plain_report(
+// The report of the zero choice.
+fn first_report(
     alloc: Global,
     instance: &Instance,
-    least: LeastCosts,
-    upper: u128,
-) -> Result<Report, Memory>
-    requires least { AreLeast instance.now least }
-    requires basic { upper ≡ basic instance.now.commodities least.spans.items }
-    requires bound { IsUpperBound instance.now (pos upper) 1 }
-    ensures { IfOk result (λ report. IsReportOf instance.now (printed report)) }
+    spans: &[Span],
+    covers: &[Cover],
+) -> Result<Report<Frac64>, Memory>
+    requires spans { AreSpans instance.now.arcs instance.now.commodities spans.now }
+    requires covers { AreUsefulCovers instance.now.arcs instance.now.commodities covers.now }
+    requires few { path_total covers.now ≤ 2000 }
+    ensures report { IfOk result (λ report. IsReportOf instance.now (report_value value_of_64 report)) }
+    ensures first { IfOk result (λ report. IsFirstReport instance.now (report_value value_of_64 report)) }
 {
-    let tolls = zeros(alloc, instance.tolls())?;
-    let paths = plain_paths(alloc, least)?;
+    let Start { tolls, response } = find_start::<Frac64>(alloc, instance, covers)?;
+    let paths = walks_of_reply(alloc, instance, covers, &response)?;
+    let lower = response.revenue.widen();
+    let upper = upper_value(instance, spans);
     Ok(Report {
-        lower: 0,
+        status: status_of(lower, upper),
+        lower,
         upper,
+        opened: 0,
         tolls,
-        paths,
+        paths: Listed::of(paths),
     })
 }
 
-// So many tolls of 0.
-fn zeros(alloc: Global, count: u32) -> Result<Vec<u64>, Memory>
-    ensures { IfOk result (λ tolls. tolls.items ≡ replicate count 0) }
+// Optimal exactly where the two values are equal.
+fn status_of(lower: Frac128, upper: Frac128) -> Status
+    ensures { IsStatusOf (value_of_wide lower) (value_of_wide upper) result }
 {
-    let tolls = vec![in alloc; 0; count as usize]?;
-    Ok(tolls)
+    match lower.cmp(upper) {
+        Ordering::Less => Status::Budget,
+        Ordering::Equal => Status::Optimal,
+        Ordering::Greater => Status::Budget,
+    }
 }
 
-// Each walk with its cost, paying nothing.
-fn plain_paths(alloc: Global, least: LeastCosts) -> Result<Vec<Path>, AllocError>
-    ensures { IfOk result (λ paths. paths.items ≡ map plain_path (zip least.spans.items least.walks.items)) }
+// The status of the program for that of a report.
+fn exit_status(status: Status) -> u8
+    ensures { result ≡ exit_status status }
 {
-    let LeastCosts { spans, walks } = least;
-    spans
-        .into_iter()
-        .zip(walks)
-        .map(|(span, walk)| Path {
-            cost: span.zero,
-            paid: 0,
-            walk,
-        })
-        .collect(alloc)
+    match status {
+        Status::Optimal => 0,
+        Status::Budget => 1,
+        Status::Overflow => 8,
+    }
 }

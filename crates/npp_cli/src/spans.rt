@@ -1,30 +1,20 @@
 //! The job `bounds`: the least costs of each commodity, and the basic bound.
 ghost use Rattle.std.specs.Prelude.{◌≡◌, ◌++◌, ℕ, IfOk, OnOk, string_bytes};
 ghost use Rattle.npp_bounds.specs.Spans.{AreSpans};
-ghost use Rattle.npp_cli.specs.Answers.{AnswersInstance, IsBounded};
-ghost use Rattle.npp_cli.specs.Printed.{numbered_lines};
+ghost use Rattle.npp_cli.specs.Answers.{IsBounded};
+ghost use Rattle.npp_report.specs.Lines.{numbered_lines};
 ghost use Rattle.npp_cli.specs.SpansText.{span_line};
 
-use crate::answers::{Answer, no_free_path};
-use crate::words::FileJob;
-use npp_bounds::{BoundsRefusal, basic_bound, free_and_zero};
+use crate::answers::Answer;
+use npp_bounds::basic_bound;
 use npp_net::{Instance, Memory, Span};
 use std::alloc::Global;
 use std::fmt::Write;
 
-/// The least costs of each commodity and the basic bound, or the first commodity that has no toll-free walk.
-pub fn bounds(alloc: Global, instance: &Instance) -> Result<Answer, Memory>
-    ensures { IfOk result (λ answer. AnswersInstance FileJob.Bounds instance.now answer.status (string_bytes answer.text)) }
-{
-    match free_and_zero(alloc, instance) {
-        Ok(spans) => bounded(alloc, instance, &spans),
-        Err(BoundsRefusal::NoFreePath(k)) => no_free_path(alloc, k),
-        Err(BoundsRefusal::Memory) => Err(Memory),
-    }
-}
-
-// The text of the least costs.
-fn bounded(alloc: Global, instance: &Instance, spans: &[Span]) -> Result<Answer, Memory>
+/// The least costs of each commodity and the basic bound.
+///
+/// The spans are those of the instance, one for each commodity in order.
+pub fn bounds(alloc: Global, instance: &Instance, spans: &[Span]) -> Result<Answer, Memory>
     requires { AreSpans instance.now.arcs instance.now.commodities spans.now }
     ensures { IfOk result (λ answer. IsBounded instance.now answer.status (string_bytes answer.text)) }
 {

@@ -16,6 +16,12 @@ const TWO_ROADS_WITH_BLANKS: &str =
 const THREE_PAIRS: &str =
     "npp 1\nnode a\nnode b\nnode p\nnode q\nnode r\ntoll a b 2\nfree p a 0\nfree p b 10\nfree q a 0\nfree q b 8\nfree r a 0\nfree r b 5\npair p b 1\npair q b 1\npair r b 3\n";
 
+const TWO_ROADS_REPORT: &str =
+    "npp-certificate 1\nstatus optimal\nwidth 64\nlower 40\nupper 40\nopened 0\ntoll 0 8\npath 0 2 8 1\n";
+
+const RING: &str =
+    "npp 1\nnode x\nnode y\nnode z\ntoll x y 0\ntoll y z 0\ntoll z x 0\nfree x z 1\nfree y x 1\nfree z y 1\npair x z 1\npair y x 1\npair z y 1\n";
+
 const NEEDLESS_TOLL: &str =
     "npp 1\nnode a\nnode m\nnode b\nfree a b 10\ntoll a m 1\nfree m b 1\ntoll m b 1\npair a b 1\n";
 
@@ -101,35 +107,71 @@ fn expect(
 
 #[test]
 fn reports(rt: HostRuntime) -> Result<(), Fail> {
-    let report =
-        "npp-certificate 1\nstatus budget\nwidth 64\nlower 0\nupper 40\nopened 0\ntoll 0 0\npath 0 2 0 1\n";
-    let optimal =
-        "npp-certificate 1\nstatus optimal\nwidth 64\nlower 0\nupper 0\nopened 0\npath 0 4 0 0\n";
     let rows = [
-        ("solve", TWO_ROADS, 1, report),
-        ("solve", TWO_ROADS_WITH_BLANKS, 1, report),
+        (TWO_ROADS, 0, TWO_ROADS_REPORT),
+        (TWO_ROADS_WITH_BLANKS, 0, TWO_ROADS_REPORT),
         (
-            "solve",
+            THREE_PAIRS,
+            1,
+            "npp-certificate 1\nstatus budget\nwidth 64\nlower 15\nupper 23\nopened 0\ntoll 0 3\npath 0 2 3 1 0\npath 1 2 3 3 0\npath 2 2 3 5 0\n",
+        ),
+        (
+            RING,
+            0,
+            "npp-certificate 1\nstatus optimal\nwidth 64\nlower 3\nupper 3\nopened 0\ntoll 0 1/2\ntoll 1 1/2\ntoll 2 1/2\npath 0 0 1 0 1\npath 1 0 1 1 2\npath 2 0 1 2 0\n",
+        ),
+        (
+            "npp 1\nnode a\nnode b\nfree a b 10\ntoll a b 2\ntoll a b 4\npair a b 1\n",
+            0,
+            "npp-certificate 1\nstatus optimal\nwidth 64\nlower 8\nupper 8\nopened 0\ntoll 0 8\ntoll 1 6\npath 0 2 8 1\n",
+        ),
+        (
             "npp 1\nnode a\nnode b\nfree a b 4\npair a b 1\n",
             0,
-            optimal,
+            "npp-certificate 1\nstatus optimal\nwidth 64\nlower 0\nupper 0\nopened 0\npath 0 4 0 0\n",
         ),
-        ("bounds", TWO_ROADS, 0, "span 0 10 2\nbasic 40\n"),
         (
-            "bounds",
-            THREE_PAIRS,
+            "npp 1\nnode a\nnode b\nfree a b 5\ntoll a b 5\npair a b 3\n",
             0,
-            "span 0 10 2\nspan 1 8 2\nspan 2 5 2\nbasic 23\n",
+            "npp-certificate 1\nstatus optimal\nwidth 64\nlower 0\nupper 0\nopened 0\ntoll 0 0\npath 0 5 0 0\n",
+        ),
+        (
+            "npp 1\nnode a\nnode b\nnode c\nfree a b 10\ntoll a b 2\nfree a c 0\ntoll c a 0\npair a b 5\n",
+            0,
+            "npp-certificate 1\nstatus optimal\nwidth 64\nlower 40\nupper 40\nopened 0\ntoll 0 8\ntoll 1 0\npath 0 2 8 1\n",
         ),
     ];
-    for (job, text, status, written) in rows {
+    for (text, status, written) in rows {
         expect(
             &rt,
             rt.alloc(),
-            job,
+            "solve",
             "file",
             text.as_bytes(),
             status,
+            written,
+        )?;
+    }
+    Ok(())
+}
+
+#[test]
+fn spans(rt: HostRuntime) -> Result<(), Fail> {
+    let rows = [
+        (TWO_ROADS, "span 0 10 2\nbasic 40\n"),
+        (
+            THREE_PAIRS,
+            "span 0 10 2\nspan 1 8 2\nspan 2 5 2\nbasic 23\n",
+        ),
+    ];
+    for (text, written) in rows {
+        expect(
+            &rt,
+            rt.alloc(),
+            "bounds",
+            "file",
+            text.as_bytes(),
+            0,
             written,
         )?;
     }
@@ -236,24 +278,29 @@ fn chain(alloc: Global, links: u32) -> Result<String, Fail> {
     Ok(text)
 }
 
-// 11 links have 2,048 useful paths, 16 links have 131,070 useful labels.
+// 16 links have 131,070 useful labels.
 #[test]
-fn over_the_limits(rt: HostRuntime) -> Result<(), Fail> {
-    let rows = [
-        (11, "refused too-many-paths 0\n"),
-        (16, "refused too-many-labels 0\n"),
-    ];
-    for (links, written) in rows {
-        let text = chain(rt.alloc(), links)?;
-        expect(
-            &rt,
-            rt.alloc(),
-            "paths",
-            "file",
-            text.as_bytes(),
-            11,
-            written,
-        )?;
+fn over_the_limit_on_labels(rt: HostRuntime) -> Result<(), Fail> {
+    let text = chain(rt.alloc(), 16)?;
+    let refusal = "refused too-many-labels 0\n";
+    expect(
+        &rt,
+        rt.alloc(),
+        "paths",
+        "file",
+        text.as_bytes(),
+        11,
+        refusal,
+    )
+}
+
+// 11 links have 2,048 useful paths.
+#[test]
+fn over_the_limit_on_paths(rt: HostRuntime) -> Result<(), Fail> {
+    let text = chain(rt.alloc(), 11)?;
+    let refusal = "refused too-many-paths 0\n";
+    for job in ["paths", "solve"] {
+        expect(&rt, rt.alloc(), job, "file", text.as_bytes(), 11, refusal)?;
     }
     Ok(())
 }
@@ -268,19 +315,28 @@ fn side_by_side(alloc: Global, tolls: u32) -> Result<String, Fail> {
     Ok(text)
 }
 
+// Each toll arc of the 128 costs what the others do where its toll is 200 less its cost.
 #[test]
 fn as_many_toll_arcs_as_there_may_be(rt: HostRuntime) -> Result<(), Fail> {
     let alloc = rt.alloc();
     let mut useful = String::from_str(alloc, "commodity 0 129\n")?;
-    for toll in 0..128 {
+    let mut limits = String::new(alloc);
+    let mut tolls = String::new(alloc);
+    for toll in 0..128_u32 {
         let arc = toll + 1;
         writeln!(useful, "useful 0 {toll} {toll} tolls {toll} arcs {arc}")?;
+        writeln!(limits, "limit {toll} -")?;
+        writeln!(tolls, "toll {toll} {}", 200_u32.saturating_sub(toll))?;
     }
     writeln!(useful, "useful 0 128 200 tolls arcs 0")?;
+    let report = format!(in alloc;
+        "npp-certificate 2\nstatus optimal\nwidth 64\nlower 200\nupper 200\nopened 0\ninstance 2 129 128 1\n{limits}{tolls}path 0 0 200 1\n"
+    )?;
     let most = side_by_side(alloc, 128)?;
     let rows = [
         ("bounds", "span 0 200 0\nbasic 200\n"),
         ("paths", useful.as_str()),
+        ("solve", report.as_str()),
     ];
     for (job, written) in rows {
         expect(&rt, alloc, job, "file", most.as_bytes(), 0, written)?;
@@ -296,16 +352,22 @@ fn with_toll_line(alloc: Global, line: &str) -> Result<String, Fail> {
     Ok(text)
 }
 
-// Bounds and useful paths hold of all tolls, whatever the ceiling.
+// Bounds and useful paths hold of all tolls, whatever the ceiling; a report names it.
 #[test]
 fn ceilings(rt: HostRuntime) -> Result<(), Fail> {
     let alloc = rt.alloc();
-    let report =
-        "npp-certificate 1\nstatus budget\nwidth 64\nlower 0\nupper 40\nopened 0\ntoll 0 0\npath 0 2 0 1\n";
+    let bound =
+        "npp-certificate 2\nstatus budget\nwidth 64\nlower 15\nupper 40\nopened 0\ninstance 2 2 1 1\nlimit 0 3\ntoll 0 3\npath 0 2 3 1\n";
+    let zero =
+        "npp-certificate 2\nstatus budget\nwidth 64\nlower 0\nupper 40\nopened 0\ninstance 2 2 1 1\nlimit 0 0\ntoll 0 0\npath 0 2 0 1\n";
+    let loose =
+        "npp-certificate 2\nstatus optimal\nwidth 64\nlower 40\nupper 40\nopened 0\ninstance 2 2 1 1\nlimit 0 20\ntoll 0 8\npath 0 2 8 1\n";
     let useful = "commodity 0 2\nuseful 0 0 2 tolls 0 arcs 1\nuseful 0 1 10 tolls arcs 0\n";
     let rows = [
-        ("solve", "toll a b 2 3", 1, report),
-        ("solve", "toll a b 2 -", 1, report),
+        ("solve", "toll a b 2 3", 1, bound),
+        ("solve", "toll a b 2 0", 1, zero),
+        ("solve", "toll a b 2 20", 0, loose),
+        ("solve", "toll a b 2 -", 0, TWO_ROADS_REPORT),
         ("bounds", "toll a b 2 3", 0, "span 0 10 2\nbasic 40\n"),
         ("paths", "toll a b 2 0", 0, useful),
         (

@@ -1,5 +1,6 @@
 use Rattle.npp_cli.specs.Generated.{main_arc}
-use Rattle.npp_cli.proofs.Growth.{grown_by_more, map_first_more}
+use Rattle.npp_report.proofs.Growth.{grown_by_more}
+use Rattle.npp_cli.proofs.Growth.{map_first_more}
 use Rattle.npp_cli.proofs.generator.add_main_road.Goals as goal
 
 pub loop-i-preserved : goal.loop-i-preserved

@@ -1,6 +1,7 @@
 use Rattle.std.proofs.Common.{◌++◌}
 use Rattle.std.specs.Fmt.{decimal}
-use Rattle.npp_cli.proofs.Growth.{grown_by_more, map_first_more, texts_more}
+use Rattle.npp_report.proofs.Growth.{grown_by_more}
+use Rattle.npp_cli.proofs.Growth.{map_first_more, texts_more}
 use Rattle.npp_cli.proofs.generator.add_names.Goals as goal
 
 pub loop-i-preserved : goal.loop-i-preserved

@@ -1,6 +1,7 @@
 use Rattle.std.proofs.Common.{◌∷◌, [], ℕ, List, ◌<◌, length, arith}
 use Rattle.npp_cli.specs.Generated.{ramp_arcs}
-use Rattle.npp_cli.proofs.Growth.{grown_by_more, flat_map_take_more}
+use Rattle.npp_report.proofs.Growth.{grown_by_more}
+use Rattle.npp_cli.proofs.Growth.{flat_map_take_more}
 use Rattle.npp_cli.proofs.generator.add_ramps.Goals as goal
 
 pub loop-i-preserved : goal.loop-i-preserved

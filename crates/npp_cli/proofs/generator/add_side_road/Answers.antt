@@ -1,5 +1,6 @@
 use Rattle.npp_cli.specs.Generated.{side_arcs}
-use Rattle.npp_cli.proofs.Growth.{grown_by_more, flat_map_first_more}
+use Rattle.npp_report.proofs.Growth.{grown_by_more}
+use Rattle.npp_cli.proofs.Growth.{flat_map_first_more}
 use Rattle.npp_cli.proofs.generator.add_side_road.Goals as goal
 
 pub loop-i-preserved : goal.loop-i-preserved

@@ -1,11 +1,10 @@
-use Rattle.std.proofs.Common.{string_bytes}
+use Rattle.std.proofs.Common.{inl, inr, string_bytes}
 use Rattle.std.proofs.lemmas.Result.{IfOk-weaker}
 use Rattle.npp_cli.specs.declared.answers.Answer.{Answer}
-use Rattle.npp_cli.proofs.JobLemmas.{listed_answers}
 use Rattle.npp_cli.proofs.paths.paths.Goals as goal
 
-pub returns-in-Ok : goal.returns-in-Ok
-returns-in-Ok c =
-    IfOk-weaker c.within_limits.result _ _
-    (λ (answer : Answer). listed_answers c.args.instance.now c.in-Ok.spans.items answer.status (string_bytes answer.text) c.in-Ok.ensures.spans)
-    c.within_limits.ensures
+pub returns-in-Err : goal.returns-in-Err
+returns-in-Err c =
+    IfOk-weaker c.over_limit.result _ _
+    (λ (answer : Answer) answers. inr (record { refusal = c.in-Err.refusal; is_refusal = c.in-Err.ensures.refused; answers = answers }))
+    c.over_limit.ensures

@@ -1,6 +1,6 @@
 use Rattle.npp_cli.specs.PathsText.{commodity_lines}
-use Rattle.npp_cli.proofs.Growth.{grown_by_more}
-use Rattle.npp_cli.proofs.NumberedLines.{numbered_lines_more}
+use Rattle.npp_report.proofs.Growth.{grown_by_more}
+use Rattle.npp_report.proofs.NumberedLines.{numbered_lines_more}
 use Rattle.npp_cli.proofs.paths.write_covers.Goals as goal
 
 pub loop-k-preserved : goal.loop-k-preserved

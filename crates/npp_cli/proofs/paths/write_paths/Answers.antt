@@ -1,7 +1,7 @@
 use Rattle.npp_cover.specs.PathValue.{path_value}
 use Rattle.npp_cli.specs.PathsText.{useful_line}
-use Rattle.npp_cli.proofs.Growth.{grown_by_more}
-use Rattle.npp_cli.proofs.NumberedLines.{mapped_lines_more}
+use Rattle.npp_report.proofs.Growth.{grown_by_more}
+use Rattle.npp_report.proofs.NumberedLines.{mapped_lines_more}
 use Rattle.npp_cli.proofs.paths.write_paths.Goals as goal
 
 pub loop-q-preserved : goal.loop-q-preserved

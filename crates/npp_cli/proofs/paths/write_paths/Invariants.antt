@@ -1,6 +1,6 @@
 use Rattle.std.proofs.Common.{◌≡◌, ◌++◌, string_bytes, map, take}
 use Rattle.npp_cover.specs.PathValue.{path_value}
-use Rattle.npp_cli.specs.Printed.{numbered_lines}
+use Rattle.npp_report.specs.Lines.{numbered_lines}
 use Rattle.npp_cli.specs.PathsText.{useful_line}
 use Rattle.npp_cli.proofs.paths.write_paths.Given as goal
 

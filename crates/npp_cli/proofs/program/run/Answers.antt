@@ -1,6 +1,6 @@
 use Rattle.std.proofs.Common.{string_bytes}
 use Rattle.npp_cli.specs.Words.{texts}
-use Rattle.npp_cli.proofs.ClaimLemmas.{prints_about, prints_bounds, prints_generated, prints_paths, prints_report, prints_usage, usage_only}
+use Rattle.npp_cli.proofs.ClaimLemmas.{prints_about, prints_done, prints_generated, prints_usage, usage_only}
 use Rattle.npp_cli.proofs.RunLemmas.{answers_6, runs_whole}
 use Rattle.npp_cli.proofs.program.run.Goals as goal
 
@@ -15,17 +15,7 @@ returns-in-Ok-write_whole-clause-sink g c six =
 
 pub returns-in-Ok-write_whole-clause-headline : goal.returns-in-Ok-write_whole-clause-headline
 returns-in-Ok-write_whole-clause-headline g c =
-    prints_report (texts c.args.words.now) (g.S.Shelf.held c.args.shelf.now) (g.O.Sink.written c.args.out.now) (g.O.Sink.written c.write_whole.new.out)
-    c.in-Ok.answer.status (returns-in-Ok-write_whole-clause-answer g c)
-
-pub returns-in-Ok-write_whole-clause-bounds : goal.returns-in-Ok-write_whole-clause-bounds
-returns-in-Ok-write_whole-clause-bounds g c =
-    prints_bounds (texts c.args.words.now) (g.S.Shelf.held c.args.shelf.now) (g.O.Sink.written c.args.out.now) (g.O.Sink.written c.write_whole.new.out)
-    c.in-Ok.answer.status (returns-in-Ok-write_whole-clause-answer g c)
-
-pub returns-in-Ok-write_whole-clause-paths : goal.returns-in-Ok-write_whole-clause-paths
-returns-in-Ok-write_whole-clause-paths g c =
-    prints_paths (texts c.args.words.now) (g.S.Shelf.held c.args.shelf.now) (g.O.Sink.written c.args.out.now) (g.O.Sink.written c.write_whole.new.out)
+    prints_done (texts c.args.words.now) (g.S.Shelf.held c.args.shelf.now) (g.O.Sink.written c.args.out.now) (g.O.Sink.written c.write_whole.new.out)
     c.in-Ok.answer.status (returns-in-Ok-write_whole-clause-answer g c)
 
 pub returns-in-Ok-write_whole-clause-on_file : goal.returns-in-Ok-write_whole-clause-on_file

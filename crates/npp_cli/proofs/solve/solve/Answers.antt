@@ -1,11 +1,13 @@
-use Rattle.std.proofs.Common.{string_bytes}
+use Rattle.std.proofs.Common.{inl, inr, string_bytes}
 use Rattle.std.proofs.lemmas.Result.{IfOk-weaker}
 use Rattle.npp_cli.specs.declared.answers.Answer.{Answer}
-use Rattle.npp_cli.proofs.JobLemmas.{solved_answers}
 use Rattle.npp_cli.proofs.solve.solve.Goals as goal
 
 pub returns-in-Ok : goal.returns-in-Ok
-returns-in-Ok c =
-    IfOk-weaker c.solved.result _ _
-    (λ (answer : Answer). solved_answers c.args.instance.now c.in-Ok.least.spans.items answer.status (string_bytes answer.text) c.in-Ok.ensures.spans)
-    c.solved.ensures
+returns-in-Ok c = IfOk-weaker c.solved.result _ _ (λ (answer : Answer) solved. inl solved) c.solved.ensures
+
+pub returns-in-Err : goal.returns-in-Err
+returns-in-Err c =
+    IfOk-weaker c.over_limit.result _ _
+    (λ (answer : Answer) answers. inr (record { refusal = c.in-Err.refusal; is_refusal = c.in-Err.ensures.refused; answers = answers }))
+    c.over_limit.ensures

@@ -1,8 +1,8 @@
 use Rattle.std.proofs.Common.{append_assoc}
 use Rattle.npp_net.specs.declared.types.Span.{Span}
 use Rattle.npp_cli.specs.SpansText.{span_line}
-use Rattle.npp_cli.proofs.Growth.{grown_by_more}
-use Rattle.npp_cli.proofs.NumberedLines.{numbered_lines_more}
+use Rattle.npp_report.proofs.Growth.{grown_by_more}
+use Rattle.npp_report.proofs.NumberedLines.{numbered_lines_more}
 use Rattle.npp_cli.proofs.spans.write_spans.Goals as goal
 
 pub loop-k-preserved : goal.loop-k-preserved

@@ -1,5 +1,5 @@
 use Rattle.std.proofs.Common.{◌≡◌, ◌++◌, string_bytes, take}
-use Rattle.npp_cli.specs.Printed.{numbered_lines}
+use Rattle.npp_report.specs.Lines.{numbered_lines}
 use Rattle.npp_cli.specs.SpansText.{span_line}
 use Rattle.npp_cli.proofs.spans.write_spans.Given as goal
 

@@ -1,0 +1,7 @@
+pub mod CoverShape
+pub mod ReplyShape
+pub mod WalkLaws
+pub mod WholeLaws
+pub mod ZeroReply
+pub mod StartLaws
+pub mod UpperLaws
