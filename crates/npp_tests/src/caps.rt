@@ -1,0 +1,33 @@
+//! The caps of tolls, with ceilings and without.
+
+use crate::fixtures::{covers_of, instance_of};
+use npp_rows::caps;
+use std::alloc::Global;
+use std::process::Abort;
+use std::test::Fail;
+
+/// The one cap of three commodities that share a toll arc with this ceiling.
+fn cap_within(alloc: Global, ceiling: &str) -> Result<String, Fail> {
+    let text = format!(in alloc;
+        "npp 2\nnode a\nnode b\nnode p\nnode q\nnode r\ntoll a b 2 {ceiling}\nfree p a 0\nfree p b 10\nfree q a 0\nfree q b 8\nfree r a 0\nfree r b 5\npair p b 1\npair q b 1\npair r b 3\n"
+    )?;
+    let net = instance_of(alloc, text.as_str())?;
+    let covers = covers_of(alloc, &net)?;
+    let caps = caps(alloc, &net, &covers)?;
+    Ok(format!(in alloc; "{caps:?}")?)
+}
+
+/// Expects the one cap of three commodities that share a toll arc with this ceiling.
+fn expect_cap(rt: &impl Abort, alloc: Global, ceiling: &str, want: &str) -> Result<(), Fail> {
+    let cap = cap_within(alloc, ceiling)?;
+    assert_eq!(rt; cap.as_str(), want);
+    Ok(())
+}
+
+#[test]
+fn a_cap_is_the_ceiling_or_the_greatest_gap(rt: HostRuntime) -> Result<(), Fail> {
+    expect_cap(&rt, rt.alloc(), "-", "[8]")?;
+    expect_cap(&rt, rt.alloc(), "20", "[8]")?;
+    expect_cap(&rt, rt.alloc(), "3", "[3]")?;
+    expect_cap(&rt, rt.alloc(), "0", "[0]")
+}

@@ -1,0 +1,7 @@
+//! Tests that cross crates, on the texts of small instances.
+#![tactic(auto)]
+
+#[cfg(test)]
+mod caps;
+#[cfg(test)]
+mod fixtures;
