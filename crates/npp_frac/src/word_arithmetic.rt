@@ -60,8 +60,6 @@ pub fn sum(a: ReducedWords, b: ReducedWords, limit: u64) -> Option<ReducedWords>
 }
 
 /// The sum of fractions of one denominator, where it is below the limit. The numerators are added as they stand.
-/// It is not inlined, as the next sum and product are not, so that a loop over whole numbers has the registers for itself.
-#[inline(never)]
 fn equal_sum(a: ReducedWords, b: ReducedWords, limit: u64) -> Option<ReducedWords>
     requires limit { limit ≤ 2 ^ 63 }
     requires same { a.den ≡ b.den }
@@ -91,7 +89,6 @@ fn whole_sum(a: ReducedWords, b: ReducedWords, limit: u64) -> Option<ReducedWord
 }
 
 /// The sum, where its numbers are below the limit.
-#[inline(never)]
 fn fraction_sum(a: ReducedWords, b: ReducedWords, limit: u64) -> Option<ReducedWords>
     requires { limit ≤ 2 ^ 63 }
     ensures fits { IsSome result ↔ FitsAdd limit (value_of_words a) (value_of_words b) }
@@ -140,7 +137,6 @@ fn whole_product(a: ReducedWords, b: ReducedWords, limit: u64) -> Option<Reduced
 }
 
 /// The product, where its numbers are below the limit.
-#[inline(never)]
 fn fraction_product(a: ReducedWords, b: ReducedWords, limit: u64) -> Option<ReducedWords>
     requires { limit ≤ 2 ^ 63 }
     ensures fits { IsSome result ↔ FitsMul limit (value_of_words a) (value_of_words b) }
