@@ -1,9 +1,8 @@
 -- The program of a conflict: which rows it has and where they stand; and rows of exclusions are cut rows.
-use Rattle.std.proofs.Common.{◌≡◌, ◌≢◌, ℕ, zero, suc, ◌+◌, ◌<◌, ◌≤◌, Bool, true, false, cond, List, [], ◌∷◌, ◌++◌, length, map, get_or, Option, Some, None, All, refl, sym, ap, subst, ◌∙◌, arith, inl, inr, eq-eqb, ne_eqb}
+use Rattle.std.proofs.Common.{◌≡◌, ◌≢◌, ℕ, zero, suc, ◌+◌, ◌<◌, ◌≤◌, Bool, true, false, cond, List, [], ◌∷◌, ◌++◌, length, map, get_or, Option, Some, None, All, refl, sym, ap, subst, arith, inl, inr, eq-eqb, ne_eqb}
 use Rattle.std.specs.Prelude.{◌⊎◌, ◌==◌, nat_lt, pos, IsTrue}
 use Rattle.std.specs.List.{AllPairs, flat_map}
-use Rattle.std.proofs.lemmas.Bool.{lt-ltb, le-ltb, or_left, or_right, and_from, cases_lt, cases_eq}
-use Rattle.std.proofs.lemmas.Bool.Decides.{eqb_tells}
+use Rattle.std.proofs.lemmas.Bool.{lt-ltb, or_left, or_right, and_from, cases_lt, cases_eq}
 use Rattle.std.proofs.lemmas.List.{length-map, get_or-map}
 use Rattle.std.proofs.lemmas.List.Elements.{All-append, All-map, All-cons, All-nil}
 use Rattle.std.proofs.lemmas.List.Kept.{AllPairs-cons}
@@ -18,12 +17,13 @@ use Rattle.npp_rows.specs.PathModel.{PathModel, commodities, paths, path_count, 
 use Rattle.npp_rows.specs.RowOrder.{row_key}
 use Rattle.npp_rows.specs.Places.{row_place, StandsAt, IsPlaceIn}
 use Rattle.npp_rows.specs.Relax.{cap_rows, follow_rows}
-use Rattle.npp_rows.specs.Inverse.{conflict_program, chosen_rows, two_chosen, choice_rows}
+use Rattle.npp_rows.specs.Inverse.{conflict_program, chosen_rows, two_chosen}
 use Rattle.npp_rows.specs.Rows.{IsConflictRow}
 use Rattle.npp_rows.specs.TwoPaths.{AreTwoPaths}
-use Rattle.npp_rows.specs.Cuts.{Cut, IsCut, IsShareOf, is_share_before, share_of, exclusion}
+use Rattle.npp_rows.specs.Cuts.{IsCut, IsShareOf, is_share_before, share_of, exclusion}
 use Rattle.npp_rows.proofs.RelaxationLaws.{all_range, all_flat}
-use Rattle.npp_rows.proofs.KeyLaws.{pairs_append, place_of, place_absent}
+use Rattle.npp_rows.proofs.KeyLaws.{pairs_append, place_of, place_absent, placed_by}
+use Rattle.npp_rows.proofs.FoundLaws.{IsNumberedFrom}
 use Rattle.npp_rows.proofs.RowPlaces.{row_same, choice_rows_rise, stands_left, stands_right, stands_single, stands_piece, caps_size}
 
 -- ---- sums of sizes that are mostly 0
@@ -104,6 +104,23 @@ module _ (m : PathModel) (k p l q : ℕ) where
 pub conflict_row_is_placed : (m : PathModel) (k p l q : ℕ) (r : RowName) (o : Option ℕ) → IsPlaceIn (conflict_program m k p l q).rows (IsConflictRow m k l) r o → o ≡ row_place (conflict_program m k p l q).rows r
 conflict_row_is_placed m k p l q r None h = sym (place_absent row_key (IsConflictRow m k l) (conflict_program m k p l q).rows r (row_same r) (all_conflict_rows m k p l q) h)
 conflict_row_is_placed m k p l q r (Some i) h = sym (place_of row_key (conflict_program m k p l q).rows r i (choice_rows_rise m (two_chosen k p l q)) h)
+
+-- what the code finds by a name
+module _ (m : PathModel) (k p l q : ℕ) where
+  pub conflict_cap_found : (a t : ℕ) (o : Option ℕ) → t ≡ length m.caps → IsNumberedFrom 0 t a o → IsPlaceIn (conflict_program m k p l q).rows (IsConflictRow m k l) (Cap a) o
+  conflict_cap_found a t o e h =
+      placed_by (conflict_program m k p l q).rows (IsConflictRow m k l) (Cap a) o (t ≤ a) (λ j. (a < t) × (j ≡ 0 + a)) h (λ x y. omega (arith, x, y, e))
+      (λ j r. let same : a ≡ j = omega (arith, r.1) in subst (λ (i : ℕ). StandsAt (conflict_program m k p l q).rows i (Cap a)) same (conflict_cap_stands m k p l q a (omega (arith, r.0, e))))
+
+  pub conflict_first_found : (two : AreTwoPaths m k p l q) (r base t : ℕ) (o : Option ℕ) → base ≡ length m.caps → t ≡ path_count m k → IsNumberedFrom base t r o → IsPlaceIn (conflict_program m k p l q).rows (IsConflictRow m k l) (Follow k r) o
+  conflict_first_found two r base t o b e h =
+      placed_by (conflict_program m k p l q).rows (IsConflictRow m k l) (Follow k r) o (t ≤ r) (λ j. (r < t) × (j ≡ base + r)) h (λ x y. omega (arith, x, y.2, e))
+      (λ j x. conflict_first_stands m k p l q two r j (omega (arith, x.0, e)) (omega (arith, x.1, b)))
+
+  pub conflict_second_found : (two : AreTwoPaths m k p l q) (r base t : ℕ) (o : Option ℕ) → base ≡ length m.caps + path_count m k → t ≡ path_count m l → IsNumberedFrom base t r o → IsPlaceIn (conflict_program m k p l q).rows (IsConflictRow m k l) (Follow l r) o
+  conflict_second_found two r base t o b e h =
+      placed_by (conflict_program m k p l q).rows (IsConflictRow m k l) (Follow l r) o (t ≤ r) (λ j. (r < t) × (j ≡ base + r)) h (λ x y. omega (arith, x, y.2, e))
+      (λ j x. conflict_second_stands m k p l q two r j (omega (arith, x.0, e)) (omega (arith, x.1, b)))
 
 -- ---- rows of exclusions
 

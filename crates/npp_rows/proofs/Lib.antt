@@ -18,6 +18,9 @@ pub mod TakenLaws
 pub mod RoundingLaws
 pub mod ConflictLaws
 pub mod PairLaws
+pub mod FaultLaws
+pub mod MarkLaws
+pub mod SumFaults
 pub mod NamedLaws
 pub mod ValueLaws
 pub mod RowLaws

@@ -1,11 +1,11 @@
 -- What the cuts of a pair say, path by path.
-use Rattle.std.proofs.Common.{◌≡◌, ◌≢◌, ℕ, zero, suc, ◌+◌, ◌<◌, ◌≤◌, Bool, true, false, cond, List, [], ◌∷◌, ◌++◌, length, map, set, get_or, take, drop, filter, Option, Some, None, All, refl, sym, ap, ap₂, subst, ◌∙◌, arith, inl, inr, eq-eqb}
+use Rattle.std.proofs.Common.{◌≡◌, ℕ, zero, suc, ◌+◌, ◌<◌, ◌≤◌, Bool, true, false, cond, List, [], ◌∷◌, ◌++◌, length, map, set, get_or, take, drop, filter, Option, Some, None, All, refl, sym, ap, ap₂, ◌∙◌, arith, inl, inr, eq-eqb}
 use Rattle.std.specs.Prelude.{◌&&◌, ◌||◌, ◌==◌, nat_lt, not, replicate}
-use Rattle.std.specs.List.{AllPairs, range_with_len, list_any}
+use Rattle.std.specs.List.{AllPairs, range_with_len}
 use Rattle.std.specs.Ordering.{int_eq}
-use Rattle.std.proofs.lemmas.Bool.{and_from, cases_eq, cases_Bool, false_from_ne_true}
+use Rattle.std.proofs.lemmas.Bool.{and_from, cases_eq, false_from_ne_true}
 use Rattle.std.proofs.lemmas.Bool.Decides.{Decides-int_eq}
-use Rattle.std.proofs.lemmas.List.{length-map, length-set, same_lists, get_or-map, get_or-set_same, get_or-set_other, take_more, take_all, take-append-drop, drop_more, get_or_default, length-replicate, get_or-replicate}
+use Rattle.std.proofs.lemmas.List.{length-set, same_lists, get_or-set_same, get_or-set_other, take_more, take-append-drop, drop_more, length-replicate, get_or-replicate}
 use Rattle.std.proofs.lemmas.List.Elements.{All-filter}
 use Rattle.std.proofs.lemmas.List.Kept.{AllPairs-filter}
 use Rattle.std.proofs.lemmas.List.Folds.{list_any_none, list_any_at, list_any-append}
@@ -13,10 +13,9 @@ use Rattle.std.proofs.lemmas.List.FromFn.{length-range_with_len, get_or-range_wi
 use Rattle.npp_frac.specs.Rational.{Rational}
 use Rattle.npp_lp.specs.Verdict.{or_else}
 use Rattle.npp_rows.specs.declared.cut.CutTerm.{CutTerm}
-use Rattle.npp_rows.specs.declared.cut.CutFault.{CutFault}
 use Rattle.npp_rows.specs.declared.cut.CutFault.TheVariants.{NotAConflict}
 use Rattle.npp_rows.specs.PathModel.{PathModel, path_count, paths}
-use Rattle.npp_rows.specs.Cuts.{Cut, cut_at, no_cut, conflict_cut, share_of, conflict_choices, is_conflict_with, is_same_cut, are_same_terms, is_same_term, is_same_number}
+use Rattle.npp_rows.specs.Cuts.{Cut, cut_at, conflict_cut, share_of, conflict_choices, is_conflict_with, is_same_cut, are_same_terms, is_same_term, is_same_number}
 use Rattle.npp_rows.specs.Derivations.{fault_if, strange_cut}
 use Rattle.npp_rows.specs.Marks.{is_choice, marked}
 use Rattle.npp_rows.proofs.ValueLaws.{range_rises}
@@ -25,7 +24,7 @@ use Rattle.npp_rows.proofs.DerivationLaws.{cut_same}
 
 -- ---- a cut is itself
 
-number_itself : (x : Rational) → is_same_number x x ≡ true
+pub number_itself : (x : Rational) → is_same_number x x ≡ true
 number_itself x = and_from (int_eq x.num x.num) (x.den == x.den) ((Decides-int_eq x.num x.num).1 refl) (eq-eqb x.den x.den refl)
 
 term_itself : (t : CutTerm Rational) → is_same_term t t ≡ true
@@ -35,7 +34,7 @@ terms_themselves : (ts : List (CutTerm Rational)) → are_same_terms ts ts ≡ t
 terms_themselves [] = refl
 terms_themselves (t ∷ ts) = and_from (is_same_term t t) (are_same_terms ts ts) (term_itself t) (terms_themselves ts)
 
-cut_itself : (c d : Cut) → c ≡ d → is_same_cut c d ≡ true
+pub cut_itself : (c d : Cut) → c ≡ d → is_same_cut c d ≡ true
 cut_itself c d e = ap (λ x. is_same_cut x d) e ∙ and_from (are_same_terms d.terms d.terms) (is_same_number d.right d.right) (terms_themselves d.terms) (number_itself d.right)
 
 other_cut : (c d : Cut) → (c ≡ d → ⊥) → is_same_cut c d ≡ false

@@ -1,21 +1,21 @@
 -- Multipliers that are taken one after the other stand for the dense ones of their program.
-use Rattle.std.proofs.Common.{◌≡◌, ◌≢◌, ℕ, zero, suc, ◌+◌, ◌<◌, ◌≤◌, Bool, true, false, cond, List, [], ◌∷◌, ◌++◌, length, map, get_or, take, drop, Option, Some, None, All, refl, sym, ap, ap₂, subst, ◌∙◌, arith, inl, inr}
-use Rattle.std.specs.Prelude.{◌&&◌, not, is_none, IsSome, unwrap_or}
-use Rattle.std.specs.List.{AllPairs, range_with_len, list_all}
-use Rattle.std.proofs.lemmas.Bool.{and_parts, and_from, cases_Bool, false_from_ne_true}
+use Rattle.std.proofs.Common.{◌≡◌, ◌≢◌, ℕ, ◌+◌, ◌<◌, ◌≤◌, Bool, true, false, cond, List, [], ◌∷◌, ◌++◌, length, map, get_or, take, drop, Option, Some, None, All, refl, sym, ap, subst, ◌∙◌, arith, inl, inr}
+use Rattle.std.specs.Prelude.{◌&&◌, not, is_some, IsSome, unwrap_or}
+use Rattle.std.specs.List.{AllPairs, list_all}
+use Rattle.std.proofs.lemmas.Bool.{and_parts, and_from, cases_Bool, false_from_ne_true, true_from_ne_false}
 use Rattle.std.proofs.lemmas.List.{get_or-map, length-map, map_push, same_lists, get_or_default, take_more, take_all, take-append-drop}
 use Rattle.std.proofs.lemmas.List.Elements.{All-nil, All-cons}
 use Rattle.std.proofs.lemmas.List.Kept.{AllPairs-cons}
-use Rattle.std.proofs.lemmas.List.Folds.{list_all-append, list_all_more, list_all_at}
+use Rattle.std.proofs.lemmas.List.Folds.{list_all-append, list_all_more, list_all_at, list_all-map}
 use Rattle.std.proofs.lemmas.List.FromFn.{get_or-map-range_with_len, length-map-range_with_len}
 use Rattle.npp_frac.specs.Rational.{Rational, zero_ℚ, is_less, ◌+ℚ◌}
 use Rattle.npp_frac.specs.Ring.{zero-+ℚ}
 use Rattle.npp_frac.specs.Fits.{IsWidth, limit_of}
-use Rattle.npp_frac.specs.Sums.{sum_by, unit, unit_other}
+use Rattle.npp_frac.specs.Sums.{sum_by, unit_other}
 use Rattle.npp_lp.specs.declared.multiplier.RowMultiplier.{RowMultiplier}
 use Rattle.npp_lp.specs.Programs.{Term, Row, row_of, no_row}
 use Rattle.npp_lp.specs.Sparse.{AreRowMultipliers, multiplier_at, dense}
-use Rattle.npp_lp.specs.SparseLaws.{RiseFrom, none_before, first_named}
+use Rattle.npp_lp.specs.SparseLaws.{RiseFrom, first_named}
 use Rattle.npp_lp.specs.Checked.{checked_column, checked_right}
 use Rattle.npp_lp.specs.DualVerdict.{dual_verdict}
 use Rattle.npp_lp.specs.FarkasVerdict.{farkas_verdict}
@@ -31,6 +31,7 @@ use Rattle.npp_rows.specs.declared.names.Multiplier.{Multiplier}
 use Rattle.npp_rows.specs.RowOrder.{has_row, is_before, is_same_row, row_key, are_rising, last_of, is_behind, are_rows, are_in_order, are_positive, multiplier_of, multipliers_of, DoRise}
 use Rattle.npp_rows.specs.Places.{row_place, StandsAt}
 use Rattle.npp_rows.specs.Named.{NamedProgram, numbered, terms_from}
+use Rattle.npp_rows.specs.Meaning.{multiplier_value}
 use Rattle.npp_rows.specs.declared.names.ColumnName.{ColumnName}
 use Rattle.npp_rows.specs.declared.multiplier_fault.MultiplierFault.TheVariants.{NoSuchRow, NotAfter, NotPositive}
 use Rattle.npp_rows.specs.Taken.{last_row, is_after, next_fault, placed_one, placed, Taken, AreAdded, AreTaken}
@@ -299,11 +300,23 @@ module _ {X : Type 0} (p : X → Bool) (xs : List X) (i : ℕ) where
   pub passes_all : length xs ≤ i → list_all p (take i xs) ≡ true → true ≡ list_all p xs
   passes_all l h = sym (sym (ap (list_all p) (take_all i xs l)) ∙ h)
 
+  pub passes_each : (x : X) → i < length xs → x ≡ get_or xs i x → list_all p xs ≡ true → p x ≡ true
+  passes_each x l is whole = true_from_ne_false (p x) (λ f. (let e = passes_not x l is f in cc))
+
 -- a row that is sought is there where it has a place
-pub sought : (rows : List RowName) (r : RowName) (o : Option ℕ) (b : Bool) → o ≡ row_place rows r → b ≡ is_none o → has_row rows r ≡ not b
-sought rows r None b e h = no_place_has rows r (sym e) ∙ ap not (sym h)
-sought rows r (Some i) b e h = (place_has rows r i (sym e)).1 ∙ ap not (sym h)
+pub sought : (rows : List RowName) (r : RowName) (o : Option ℕ) (b : Bool) → o ≡ row_place rows r → is_some o ≡ not b → has_row rows r ≡ not b
+sought rows r None b e h = no_place_has rows r (sym e) ∙ h
+sought rows r (Some i) b e h = (place_has rows r i (sym e)).1 ∙ h
 
 pub some_place : (rows : List RowName) (r : RowName) (o : Option ℕ) → o ≡ row_place rows r → has_row rows r ≡ true → IsSome o
 some_place rows r None e h = let none : has_row rows r ≡ false = no_place_has rows r (sym e) in cc
 some_place rows r (Some i) e h = refl
+
+-- the multipliers so far
+pub meant_more : {N : Type 0} (value : N → Rational) (ys : List (Multiplier N)) (i : ℕ) (y : Multiplier N) → i < length ys → y ≡ get_or ys i y
+    → map (multiplier_value value) (take (i + 1) ys) ≡ map (multiplier_value value) (take i ys) ++ multiplier_value value y ∷ []
+meant_more value ys i y l is = ap (map (multiplier_value value)) (take_more ys i y l ∙ ap (λ z. take i ys ++ z ∷ []) (sym is)) ∙ map_push (multiplier_value value) (take i ys) y
+
+-- the rows of multipliers of the code
+pub rows_meant : {N : Type 0} (value : N → Rational) (rows : List RowName) (ys : List (Multiplier N)) → are_rows rows (map (multiplier_value value) ys) ≡ list_all (λ (y : Multiplier N). has_row rows y.row) ys
+rows_meant value rows ys = list_all-map (λ z. has_row rows z.row) (multiplier_value value) ys

@@ -1,5 +1,5 @@
 -- A combination of rows by the sums that stand at its columns.
-use Rattle.std.specs.Prelude.{ℕ, ◌+◌, List, [], ◌∷◌, ◌++◌, length, not, Option, Some, None, Result, Ok, Err, if◌then◌else◌}
+use Rattle.std.specs.Prelude.{ℕ, ◌+◌, List, [], ◌∷◌, ◌++◌, length, not, Option, None, Result, Ok, Err, if◌then◌else◌}
 use Rattle.npp_frac.specs.Rational.{Rational, zero_ℚ}
 use Rattle.npp_frac.specs.Sign.{is_zero}
 use Rattle.npp_frac.specs.declared.refusal.Overflow.{Overflow as Stop}
@@ -12,14 +12,19 @@ use Rattle.npp_rows.specs.declared.cut.CutFault.TheVariants.{TollColumn, Overflo
 use Rattle.npp_rows.specs.Cuts.{Cut}
 use Rattle.npp_rows.specs.Derivations.{fault_if, is_share, column_at, rounded, share_term}
 
--- a column that is no share: its sum has to fit and to be 0
-abbrev pub toll_fault_at : List ColumnName → Sums Rational → ℕ → Option (CutFault Rational)
-toll_fault_at columns s j =
-    if is_share (column_at columns j) then None else sum_fault Overflow (λ x. fault_if (not (is_zero x)) TollColumn) (column_of s j)
+-- what is wrong with the sum of a column that is no share: it has to fit and to be 0
+abbrev pub toll_fault : ColumnName → Result Rational (Stop Rational) → Option (CutFault Rational)
+toll_fault c r = if is_share c then None else sum_fault Overflow (λ x. fault_if (not (is_zero x)) TollColumn) r
 
--- the column of a share: its sum has to fit
+abbrev pub toll_fault_at : List ColumnName → Sums Rational → ℕ → Option (CutFault Rational)
+toll_fault_at columns s j = toll_fault (column_at columns j) (column_of s j)
+
+-- what is wrong with the sum of a share: it has to fit
+abbrev pub share_fault : ColumnName → Result Rational (Stop Rational) → Option (CutFault Rational)
+share_fault c r = if is_share c then sum_fault Overflow (λ x. None) r else None
+
 abbrev pub share_fault_at : List ColumnName → Sums Rational → ℕ → Option (CutFault Rational)
-share_fault_at columns s j = if is_share (column_at columns j) then sum_fault Overflow (λ x. None) (column_of s j) else None
+share_fault_at columns s j = share_fault (column_at columns j) (column_of s j)
 
 -- the shares have to fit, and then the right side
 abbrev pub rounding_fault : List ColumnName → Sums Rational → Option (CutFault Rational)

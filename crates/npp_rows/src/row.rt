@@ -1,7 +1,8 @@
 //! The rows of a relaxation, each by its name.
 
-ghost use Rattle.std.specs.Prelude.{◌≡◌, ◌<◌, ◌+◌, ◌++◌, ◌^◌, ℕ, pos, length, map, slice_index_or, All, OnOk};
+ghost use Rattle.std.specs.Prelude.{◌≡◌, ◌<◌, ◌+◌, ◌++◌, ◌^◌, ℕ, pos, negsuc, length, map, slice_index_or, All, OnOk};
 ghost use Rattle.npp_frac.specs.Rational.{whole};
+ghost use Rattle.npp_lp.specs.Building.{term_at};
 ghost use Rattle.npp_lp.specs.Meaning.{terms_of};
 ghost use Rattle.npp_cover.specs.PathValue.{path_value};
 ghost use Rattle.npp_cover.specs.Replaces.{path_at};
@@ -175,5 +176,12 @@ fn push_link<N: Exact>(
         TollId(a),
         table.cap(a),
     )?;
-    push_number(entries, paid, -1)
+    push_taken(entries, paid)
+}
+
+/// Adds a column, taken away once.
+fn push_taken<N: Exact>(entries: &mut Vec<Entry<N>>, column: u32) -> Result<(), Memory>
+    ensures { OnOk result (terms_of N.rational entries.new.items ≡ terms_of N.rational entries.old.items ++ term_at column (whole (negsuc 0))) }
+{
+    push_number(entries, column, -1)
 }

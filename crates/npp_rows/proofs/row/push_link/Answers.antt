@@ -15,7 +15,7 @@ returns g c =
     let cap = rw c.table-table.ensures.same at c.cap.ensures.value in
     let second = rw (paths, c.part.ensures.part, cap, c.first_share.ensures.value) at c.in_ok-push_caps.ensures in
     let minus : whole (negsuc 0) ≡ negative one_ℚ = minus_if true in
-    let last = rw (place.3, minus) at c.push_number-2.ensures in
-    pushed_three c.push_number-2.result _ _ _ _ _ _ _ _ c.in_ok-push_number.ensures second
+    let last = rw (place.3, minus) at c.push_taken.ensures in
+    pushed_three c.push_taken.result _ _ _ _ _ _ _ _ c.in_ok-push_number.ensures second
     (sym (link_terms m parts c.args.a c.args.k place.0 c.paid_column-paid.ensures.toll c.requires.commodity (used_rises m parts c.args.k) place.1 place.2))
     last
