@@ -158,6 +158,9 @@ try_statuses() {
     $'0 npp-certificate 1\nstatus optimal'
   check "no free path" "$(seen "$program" solve "$top/examples/no-free-path.npp")" "10 refused no-free-path 0"
   check "too many paths" "$(seen "$program" paths "$top/examples/too-many-paths.npp")" "11 refused too-many-paths 0"
+  check "tolls of another file" "$(seen "$program" eval "$top/examples/parallel-tolls.npp" "$top/examples/parallel-tolls.tolls")" \
+    $'0 revenue 5\npath 0 4 5 2'
+  check "no file of tolls" "$(seen "$program" eval "$top/examples/parallel-tolls.npp" none)" "4 missing none"
   check "no words" "$(seen "$program" | cut -c1-7 | head -n 1)" "2 usage"
 }
 

@@ -1,4 +1,5 @@
 pub mod ClaimLemmas
+pub mod EvalLemmas
 pub mod FileLemmas
 pub mod GeneratedLimits
 pub mod GeneratedNames
@@ -7,3 +8,4 @@ pub mod JobLemmas
 pub mod RunLemmas
 pub mod StatusLemmas
 pub mod Taking
+pub mod WordLemmas

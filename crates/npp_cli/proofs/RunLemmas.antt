@@ -3,9 +3,9 @@ use Rattle.std.proofs.Common.{◌≡◌, ◌≢◌, ℕ, List, Option, None, Som
 use Rattle.npp_outside.specs.Shelf.{Files}
 use Rattle.npp_outside.specs.Sink.{GrewBy}
 use Rattle.npp_cli.specs.Runs.{Runs}
-use Rattle.npp_cli.specs.Words.{Job, on_file, generate, job_of}
+use Rattle.npp_cli.specs.Words.{Job, on_file, evaluate, generate, job_of}
 use Rattle.npp_cli.specs.Answers.{Answers, AnswersJob}
-use Rattle.npp_cli.proofs.StatusLemmas.{IsOther, IsNoShelfStatus, file_status, other_6, other_7}
+use Rattle.npp_cli.proofs.StatusLemmas.{IsOther, IsNoShelfStatus, on_file_status, on_two_status, other_6, other_7}
 
 -- no answer has the status of a sink that failed, or of want of memory
 no_shelf_6 : IsNoShelfStatus 6
@@ -17,7 +17,8 @@ no_shelf_7 = record { not_4 = λ e. omega (arith, e); not_5 = λ e. omega (arith
 job_status : (n status : ℕ) → n ≢ 2 → IsOther n → IsNoShelfStatus n → status ≡ n
     → (job : Option Job) (held : Option Files) (text : List ℕ) → AnswersJob job held status text → ⊥
 job_status n status not_2 other none is None held text answers = not_2 (sym is ∙ answers.0)
-job_status n status not_2 other none is (Some (on_file job name)) held text answers = file_status n status other none is job held name text answers
+job_status n status not_2 other none is (Some (on_file job name)) held text answers = on_file_status n status other none is job held name text answers
+job_status n status not_2 other none is (Some (evaluate name tolls)) held text answers = on_two_status n status other none is held name tolls text answers
 job_status n status not_2 other none is (Some (generate number)) held text answers = other.not_0 (sym is ∙ answers.0)
 
 pub answers_6 : (words : List (List ℕ)) (held : Option Files) (status : ℕ) (text : List ℕ) → Answers words held status text → status ≡ 6 → ⊥

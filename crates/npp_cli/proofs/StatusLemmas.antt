@@ -1,5 +1,5 @@
 -- Which statuses an answer may have.
-use Rattle.std.proofs.Common.{◌≡◌, ◌≢◌, ℕ, List, Bool, true, false, if◌then◌else◌, Option, None, Some, Result, Ok, Err, MatchResult, MatchBool, inl, inr, nat_lt, length, sym, ◌∙◌, arith}
+use Rattle.std.proofs.Common.{◌≡◌, ◌≢◌, ℕ, List, Bool, true, false, Option, None, Some, Result, Ok, Err, MatchResult, MatchBool, inl, inr, nat_lt, length, sym, ◌∙◌, arith}
 use Rattle.npp_outside.specs.Shelf.{Files, file_at}
 use Rattle.npp_net.specs.Network.{Network}
 use Rattle.npp_reader.specs.declared.document.Document.{Document}
@@ -14,7 +14,10 @@ use Rattle.npp_tree.specs.declared.outcome.Status.{Status}
 use Rattle.npp_tree.specs.declared.outcome.Status.TheVariants.{Optimal, Budget, Overflow}
 use Rattle.npp_cli.specs.Texts.{too_long_text}
 use Rattle.npp_cli.specs.Listed.{AnswersLimit}
-use Rattle.npp_cli.specs.Answers.{exit_status, IsDone, AnswersInstance, AnswersFault, AnswersBytes, AnswersContent, AnswersFile, instance_limit}
+use Rattle.npp_eval.specs.declared.refusal.EvalRefusal.{EvalRefusal}
+use Rattle.npp_eval.specs.declared.refusal.EvalRefusal.TheVariants as eval
+use Rattle.npp_cli.specs.Evaluated.{AnswersEvalRefusal, AnswersTolls}
+use Rattle.npp_cli.specs.Answers.{exit_status, IsDone, AnswersInstance, AnswersFault, AnswersContent, AnswersFile, AnswersOf, AnswersWithTolls, instance_limit, tolls_limit}
 
 -- none of the statuses of an answer about the bytes of a file
 pub record IsOther (n : ℕ) : Type 0 where
@@ -22,6 +25,7 @@ pub record IsOther (n : ℕ) : Type 0 where
   pub not_1 : n ≢ 1
   pub not_3 : n ≢ 3
   pub not_8 : n ≢ 8
+  pub not_9 : n ≢ 9
   pub not_10 : n ≢ 10
   pub not_11 : n ≢ 11
 
@@ -46,20 +50,30 @@ instance_status : (n status : ℕ) → IsOther n → status ≡ n → (job : Fil
 instance_status n status other is job net text (inl refused) = other.not_10 (sym is ∙ refused.2)
 instance_status n status other is job net text (inr done) = done_status n status other is job net text done.1
 
-read_status : (n status : ℕ) → IsOther n → status ≡ n → (job : FileJob) (text : List ℕ) (r : Result Document ReadRefusal)
-    → MatchResult r (λ document. AnswersInstance job document.instance status text) (λ fault. AnswersFault fault status text) → ⊥
-read_status n status other is job text (Ok document) answers = instance_status n status other is job document.instance text answers
-read_status n status other is job text (Err (Line number kind)) answers = other.not_3 (sym is ∙ answers.0)
-read_status n status other is job text (Err Memory) answers = absurd answers
+-- of what is said about tolls
+eval_refusal_status : (n status : ℕ) → IsOther n → status ≡ n → (refusal : EvalRefusal) (text : List ℕ) → AnswersEvalRefusal refusal status text → ⊥
+eval_refusal_status n status other is (eval.Line number) text answers = other.not_9 (sym is ∙ answers.0)
+eval_refusal_status n status other is (eval.NoFreePath k) text answers = other.not_10 (sym is ∙ answers.0)
+eval_refusal_status n status other is (eval.TooManyLabels k) text answers = other.not_11 (sym is ∙ answers.0)
+eval_refusal_status n status other is (eval.TooManyPaths k) text answers = other.not_11 (sym is ∙ answers.0)
+eval_refusal_status n status other is (eval.Overflow k) text answers = other.not_8 (sym is ∙ answers.0)
+eval_refusal_status n status other is eval.Memory text answers = absurd answers
 
-pub bytes_status : (n status : ℕ) → IsOther n → status ≡ n → (job : FileJob) (bytes text : List ℕ) → AnswersBytes job bytes status text → ⊥
-bytes_status n status other is job bytes text answers = read_status n status other is job text (reading_of bytes) answers
+pub tolls_status : (n status : ℕ) → IsOther n → status ≡ n → (net : Network) (bytes text : List ℕ) → AnswersTolls net bytes status text → ⊥
+tolls_status n status other is net bytes text (inl replied) = other.not_0 (sym is ∙ replied.is_status)
+tolls_status n status other is net bytes text (inr not_replied) = eval_refusal_status n status other is not_replied.refusal text not_replied.answers
 
-pub other_6 : IsOther 6
-other_6 = record { not_0 = λ e. omega (arith, e); not_1 = λ e. omega (arith, e); not_3 = λ e. omega (arith, e); not_8 = λ e. omega (arith, e); not_10 = λ e. omega (arith, e); not_11 = λ e. omega (arith, e) }
+-- where no answer about an instance has the status, none about the bytes of its file has
+read_status : (n status : ℕ) → IsOther n → status ≡ n → (about : Network → ℕ → List ℕ → Type 0) (text : List ℕ)
+    → ((net : Network) → about net status text → ⊥) → (r : Result Document ReadRefusal)
+    → MatchResult r (λ document. about document.instance status text) (λ fault. AnswersFault fault status text) → ⊥
+read_status n status other is about text never (Ok document) answers = never document.instance answers
+read_status n status other is about text never (Err (Line number kind)) answers = other.not_3 (sym is ∙ answers.0)
+read_status n status other is about text never (Err Memory) answers = absurd answers
 
-pub other_7 : IsOther 7
-other_7 = record { not_0 = λ e. omega (arith, e); not_1 = λ e. omega (arith, e); not_3 = λ e. omega (arith, e); not_8 = λ e. omega (arith, e); not_10 = λ e. omega (arith, e); not_11 = λ e. omega (arith, e) }
+pub bytes_status : (n status : ℕ) → IsOther n → status ≡ n → (job : FileJob) (bytes text : List ℕ) → AnswersOf job bytes status text → ⊥
+bytes_status n status other is job bytes text answers =
+    read_status n status other is (AnswersInstance job) text (λ net. instance_status n status other is job net text) (reading_of bytes) answers
 
 -- none of the statuses of the shelf
 pub record IsNoShelfStatus (n : ℕ) : Type 0 where
@@ -67,25 +81,51 @@ pub record IsNoShelfStatus (n : ℕ) : Type 0 where
   pub not_5 : n ≢ 5
   pub not_12 : n ≢ 12
 
-content_status : (n status : ℕ) → IsOther n → IsNoShelfStatus n → status ≡ n
-    → (job : FileJob) (name text : List ℕ) (file : Option (List ℕ)) → AnswersContent job name file status text → ⊥
-content_status n status other none is job name text None answers = none.not_4 (sym is ∙ answers.0)
-content_status n status other none is job name text (Some bytes) answers =
-    by_length (nat_lt instance_limit (length bytes)) answers
+-- where no answer about the bytes of a file has the status, none about the file has
+content_status : (n status : ℕ) → IsNoShelfStatus n → status ≡ n → (about : List ℕ → ℕ → List ℕ → Type 0) (limit : ℕ) (name text : List ℕ)
+    → ((bytes : List ℕ) → about bytes status text → ⊥) → (file : Option (List ℕ)) → AnswersContent about limit name file status text → ⊥
+content_status n status none is about limit name text never None answers = none.not_4 (sym is ∙ answers.0)
+content_status n status none is about limit name text never (Some bytes) answers = by_length (nat_lt limit (length bytes)) answers
   where
-    by_length : (long : Bool) → MatchBool long ((status ≡ 12) × (text ≡ too_long_text name)) (AnswersBytes job bytes status text) → ⊥
+    by_length : (long : Bool) → MatchBool long ((status ≡ 12) × (text ≡ too_long_text name)) (about bytes status text) → ⊥
     by_length true answers = none.not_12 (sym is ∙ answers.0)
-    by_length false answers = bytes_status n status other is job bytes text answers
+    by_length false answers = never bytes answers
 
-pub file_status : (n status : ℕ) → IsOther n → IsNoShelfStatus n → status ≡ n
-    → (job : FileJob) (held : Option Files) (name text : List ℕ) → AnswersFile job held name status text → ⊥
-file_status n status other none is job None name text (inl failed) = none.not_5 (sym is ∙ failed.0)
-file_status n status other none is job None name text (inr (file, answers)) = content_status n status other none is job name text file answers
-file_status n status other none is job (Some files) name text (inl failed) = none.not_5 (sym is ∙ failed.0)
-file_status n status other none is job (Some files) name text (inr answers) = content_status n status other none is job name text (file_at files name) answers
+file_status : (n status : ℕ) → IsNoShelfStatus n → status ≡ n → (about : List ℕ → ℕ → List ℕ → Type 0) (limit : ℕ) (name text : List ℕ)
+    → ((bytes : List ℕ) → about bytes status text → ⊥) → (held : Option Files) → AnswersFile about limit held name status text → ⊥
+file_status n status none is about limit name text never None (inl failed) = none.not_5 (sym is ∙ failed.0)
+file_status n status none is about limit name text never None (inr (file, answers)) = content_status n status none is about limit name text never file answers
+file_status n status none is about limit name text never (Some files) (inl failed) = none.not_5 (sym is ∙ failed.0)
+file_status n status none is about limit name text never (Some files) (inr answers) = content_status n status none is about limit name text never (file_at files name) answers
+
+pub on_file_status : (n status : ℕ) → IsOther n → IsNoShelfStatus n → status ≡ n
+    → (job : FileJob) (held : Option Files) (name text : List ℕ) → AnswersFile (AnswersOf job) instance_limit held name status text → ⊥
+on_file_status n status other none is job held name text answers =
+    file_status n status none is (AnswersOf job) instance_limit name text (λ bytes. bytes_status n status other is job bytes text) held answers
+
+pub on_two_status : (n status : ℕ) → IsOther n → IsNoShelfStatus n → status ≡ n
+    → (held : Option Files) (name tolls text : List ℕ) → AnswersFile (AnswersWithTolls held tolls) instance_limit held name status text → ⊥
+on_two_status n status other none is held name tolls text answers =
+    let OnTolls : Network → ℕ → List ℕ → Type 0 = λ net. AnswersFile (AnswersTolls net) tolls_limit held tolls in
+    file_status n status none is (AnswersWithTolls held tolls) instance_limit name text
+    (λ bytes. read_status n status other is OnTolls text
+    (λ net. file_status n status none is (AnswersTolls net) tolls_limit tolls text (λ bytes. tolls_status n status other is net bytes text) held) (reading_of bytes))
+    held answers
 
 pub other_2 : IsOther 2
-other_2 = record { not_0 = λ e. omega (arith, e); not_1 = λ e. omega (arith, e); not_3 = λ e. omega (arith, e); not_8 = λ e. omega (arith, e); not_10 = λ e. omega (arith, e); not_11 = λ e. omega (arith, e) }
+other_2 = record { not_0 = λ e. omega (arith, e); not_1 = λ e. omega (arith, e); not_3 = λ e. omega (arith, e); not_8 = λ e. omega (arith, e); not_9 = λ e. omega (arith, e); not_10 = λ e. omega (arith, e); not_11 = λ e. omega (arith, e) }
+
+pub other_4 : IsOther 4
+other_4 = record { not_0 = λ e. omega (arith, e); not_1 = λ e. omega (arith, e); not_3 = λ e. omega (arith, e); not_8 = λ e. omega (arith, e); not_9 = λ e. omega (arith, e); not_10 = λ e. omega (arith, e); not_11 = λ e. omega (arith, e) }
+
+pub other_5 : IsOther 5
+other_5 = record { not_0 = λ e. omega (arith, e); not_1 = λ e. omega (arith, e); not_3 = λ e. omega (arith, e); not_8 = λ e. omega (arith, e); not_9 = λ e. omega (arith, e); not_10 = λ e. omega (arith, e); not_11 = λ e. omega (arith, e) }
+
+pub other_6 : IsOther 6
+other_6 = record { not_0 = λ e. omega (arith, e); not_1 = λ e. omega (arith, e); not_3 = λ e. omega (arith, e); not_8 = λ e. omega (arith, e); not_9 = λ e. omega (arith, e); not_10 = λ e. omega (arith, e); not_11 = λ e. omega (arith, e) }
+
+pub other_7 : IsOther 7
+other_7 = record { not_0 = λ e. omega (arith, e); not_1 = λ e. omega (arith, e); not_3 = λ e. omega (arith, e); not_8 = λ e. omega (arith, e); not_9 = λ e. omega (arith, e); not_10 = λ e. omega (arith, e); not_11 = λ e. omega (arith, e) }
 
 pub no_shelf_2 : IsNoShelfStatus 2
 no_shelf_2 = record { not_4 = λ e. omega (arith, e); not_5 = λ e. omega (arith, e); not_12 = λ e. omega (arith, e) }

@@ -12,7 +12,8 @@ use Rattle.npp_bounds.specs.declared.refusal.BoundsRefusal.TheVariants.{NoFreePa
 use Rattle.npp_bounds.specs.Spans.{AreSpans, AllHaveFreePaths, IsBoundsRefusal, basic}
 use Rattle.npp_cli.specs.declared.words.FileJob.{FileJob}
 use Rattle.npp_cli.specs.declared.words.FileJob.TheVariants.{Solve, Bounds, Paths}
-use Rattle.npp_cli.specs.Words.{Job, on_file, generate, job_of}
+use Rattle.npp_cli.specs.Words.{Job, on_file, evaluate, generate, job_of}
+use Rattle.npp_cli.specs.Evaluated.{AnswersTolls}
 use Rattle.npp_cli.specs.Generated.{generated}
 use Rattle.npp_labels.specs.Covers.{PassesNoLimit}
 use Rattle.npp_tree.specs.declared.outcome.Status.{Status}
@@ -26,6 +27,10 @@ use Rattle.npp_cli.specs.Texts.{usage_text, missing_text, shelf_fault_text, too_
 -- how many bytes an instance file may have
 abbrev pub instance_limit : ℕ
 instance_limit = 4194304
+
+-- and a tolls file
+abbrev pub tolls_limit : ℕ
+tolls_limit = 65536
 
 -- the status of the program for that of a report
 abbrev pub exit_status : Status → ℕ
@@ -66,28 +71,37 @@ abbrev pub AnswersFault : ReadRefusal → ℕ → List ℕ → Type 0
 AnswersFault (Line number kind) status text = (status ≡ 3) × (text ≡ faulty_line_text number (kind_word kind))
 AnswersFault Memory status text = ⊥
 
--- the answer about the bytes of an instance file
-abbrev pub AnswersBytes : FileJob → List ℕ → ℕ → List ℕ → Type 0
-AnswersBytes job bytes status text =
+-- the answer about the bytes of an instance file, where `about` says what is answered about an instance
+abbrev pub AnswersBytes : (Network → ℕ → List ℕ → Type 0) → List ℕ → ℕ → List ℕ → Type 0
+AnswersBytes about bytes status text =
     MatchResult (reading_of bytes)
-    (λ document. AnswersInstance job document.instance status text)
+    (λ document. about document.instance status text)
     (λ fault. AnswersFault fault status text)
 
--- the answer about a file that is missing, with status 4, or has these bytes; with too many of them the status is 12
-abbrev pub AnswersContent : FileJob → List ℕ → Option (List ℕ) → ℕ → List ℕ → Type 0
-AnswersContent job name None status text = (status ≡ 4) × (text ≡ missing_text name)
-AnswersContent job name (Some bytes) status text =
-    MatchBool (nat_lt instance_limit (length bytes))
+-- the answer about a file that is missing, with status 4, or has these bytes: with more than the limit the status is 12, and
+-- else `about` says what is answered about them
+abbrev pub AnswersContent : (List ℕ → ℕ → List ℕ → Type 0) → ℕ → List ℕ → Option (List ℕ) → ℕ → List ℕ → Type 0
+AnswersContent about limit name None status text = (status ≡ 4) × (text ≡ missing_text name)
+AnswersContent about limit name (Some bytes) status text =
+    MatchBool (nat_lt limit (length bytes))
     ((status ≡ 12) × (text ≡ too_long_text name))
-    (AnswersBytes job bytes status text)
+    (about bytes status text)
 
 -- where the shelf failed the status is 5; else the answer is about the file that the shelf holds under the name,
 -- and about any file or none where the shelf does not tell
-abbrev pub AnswersFile : FileJob → Option Files → List ℕ → ℕ → List ℕ → Type 0
-AnswersFile job (Some files) name status text =
-    ((status ≡ 5) × (text ≡ shelf_fault_text name)) ⊎ AnswersContent job name (file_at files name) status text
-AnswersFile job None name status text =
-    ((status ≡ 5) × (text ≡ shelf_fault_text name)) ⊎ ((file : Option (List ℕ)) × AnswersContent job name file status text)
+abbrev pub AnswersFile : (List ℕ → ℕ → List ℕ → Type 0) → ℕ → Option Files → List ℕ → ℕ → List ℕ → Type 0
+AnswersFile about limit (Some files) name status text =
+    ((status ≡ 5) × (text ≡ shelf_fault_text name)) ⊎ AnswersContent about limit name (file_at files name) status text
+AnswersFile about limit None name status text =
+    ((status ≡ 5) × (text ≡ shelf_fault_text name)) ⊎ ((file : Option (List ℕ)) × AnswersContent about limit name file status text)
+
+-- the answer of a job on one file, about its bytes
+abbrev pub AnswersOf : FileJob → List ℕ → ℕ → List ℕ → Type 0
+AnswersOf job bytes status text = AnswersBytes (AnswersInstance job) bytes status text
+
+-- the answer about the tolls file of this name for the instance of another file, about the bytes of that
+abbrev pub AnswersWithTolls : Option Files → List ℕ → List ℕ → ℕ → List ℕ → Type 0
+AnswersWithTolls held tolls bytes status text = AnswersBytes (λ net. AnswersFile (AnswersTolls net) tolls_limit held tolls) bytes status text
 
 -- the canonical text of the generated instance, with status 0
 abbrev pub AnswersNumber : ℕ → ℕ → List ℕ → Type 0
@@ -96,7 +110,8 @@ AnswersNumber number status text = (status ≡ 0) × (text ≡ canonical_text (g
 -- words that ask for no job are answered by the usage text, with status 2
 abbrev pub AnswersJob : Option Job → Option Files → ℕ → List ℕ → Type 0
 AnswersJob None held status text = (status ≡ 2) × (text ≡ usage_text)
-AnswersJob (Some (on_file job name)) held status text = AnswersFile job held name status text
+AnswersJob (Some (on_file job name)) held status text = AnswersFile (AnswersOf job) instance_limit held name status text
+AnswersJob (Some (evaluate name tolls)) held status text = AnswersFile (AnswersWithTolls held tolls) instance_limit held name status text
 AnswersJob (Some (generate number)) held status text = AnswersNumber number status text
 
 -- the answer to the words

@@ -1,5 +1,5 @@
 -- What a printed report has to be true of, and which report `solve` prints.
-use Rattle.std.specs.Prelude.{◌≡◌, ◌≢◌, ℕ, pos, List}
+use Rattle.std.specs.Prelude.{◌≡◌, ◌≢◌, pos, List}
 use Rattle.npp_frac.specs.Rational.{Rational, whole}
 use Rattle.npp_frac.specs.Fits.{limit_of}
 use Rattle.npp_net.specs.declared.types.Span.{Span}

@@ -5,8 +5,10 @@ pub mod Headline
 pub mod SpansText
 pub mod PathsText
 pub mod Listed
+pub mod Evaluated
 pub mod Answers
 pub mod Taken
+pub mod NotTaken
 pub mod Answer
 pub mod Runs
 pub mod Claims

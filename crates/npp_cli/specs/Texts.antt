@@ -40,3 +40,11 @@ too_many_labels_text k = line (codes "refused too-many-labels " ++ decimal k)
 -- and by the useful paths up to it
 abbrev pub too_many_paths_text : ℕ → List ℕ
 too_many_paths_text k = line (codes "refused too-many-paths " ++ decimal k)
+
+-- of the first line of a tolls text that is not the line that must stand there
+abbrev pub refused_tolls_text : ℕ → List ℕ
+refused_tolls_text number = line (codes "refused tolls line " ++ decimal number)
+
+-- of the first commodity of which a sum or product of the reply to tolls does not fit 128 bits
+abbrev pub overflow_text : ℕ → List ℕ
+overflow_text k = line (codes "refused overflow " ++ decimal k)

@@ -2,6 +2,7 @@
 #![tactic(auto)]
 
 mod answers;
+mod eval;
 mod generator;
 mod paths;
 mod program;
@@ -12,6 +13,3 @@ mod words;
 
 pub use generator::generate;
 pub use program::run;
-
-#[cfg(test)]
-mod tests;

@@ -8,16 +8,17 @@ ghost use Rattle.npp_reader.specs.Canonical.{canonical_text};
 ghost use Rattle.npp_cli.specs.Generated.{generated};
 ghost use Rattle.npp_cli.specs.Texts.{usage_text};
 ghost use Rattle.npp_cli.specs.Words.{texts, job_of, generate};
-ghost use Rattle.npp_cli.specs.Answers.{Answers, AnswersFile, AnswersBytes, AnswersInstance, IsDone};
-ghost use Rattle.npp_cli.specs.Claims.{IsGiven, IsAsked, NothingFailed, WasWritten, Prints, PrintsAbout, PrintsDone};
+ghost use Rattle.npp_cli.specs.Answers.{Answers, AnswersFile, AnswersInstance, AnswersOf, AnswersWithTolls, IsDone, instance_limit};
+ghost use Rattle.npp_cli.specs.Claims.{IsGiven, IsAsked, IsGivenTolls, IsAskedTolls, NothingFailed, WasWritten, Prints, PrintsAbout, PrintsAboutTwo, PrintsDone, PrintsEvaluation};
 ghost use Rattle.npp_cli.specs.Runs.{Runs, HasAnswerCause};
 
-use crate::answers::{Answer, faulty_line, missing, no_free_path, shelf_fault, too_long, usage};
+use crate::answers::{Answer, faulty_line, no_free_path, not_taken, usage};
+use crate::eval::eval_on_bytes;
 use crate::generator::answer_on_number;
 use crate::paths::paths;
 use crate::solve::solve;
 use crate::spans::bounds;
-use crate::take::{TakeRefusal, take_file};
+use crate::take::take_file;
 use crate::words::{Command, FileJob, command_of};
 use npp_bounds::{BoundsRefusal, free_and_zero};
 use npp_net::{Instance, Memory, Span};
@@ -43,10 +44,14 @@ pub fn run<S: Shelf, O: Sink>(alloc: Global, words: &[String], shelf: &mut S, ou
     // What is printed of an instance is true of all walks and of all tolls.
     ensures headline { (job : FileJob) (net : Network) → IsGiven job (texts words.now) (S.held shelf.old) net
         → NothingFailed result → PrintsDone job net (O.written out.old) (O.written out.new) result }
+    ensures evaluation { (net : Network) (tolls : List ℕ) → IsGivenTolls (texts words.now) (S.held shelf.old) net tolls
+        → NothingFailed result → PrintsEvaluation net tolls (O.written out.old) (O.written out.new) result }
 
     // Each answer comes exactly by its cause, and its text is all that is written.
     ensures on_file { (job : FileJob) (name : List ℕ) (files : Files) → IsAsked job name files (texts words.now) (S.held shelf.old)
         → NothingFailed result → PrintsAbout job name (file_at files name) (O.written out.old) (O.written out.new) result }
+    ensures on_two_files { (name tolls : List ℕ) (files : Files) → IsAskedTolls name tolls files (texts words.now) (S.held shelf.old)
+        → NothingFailed result → PrintsAboutTwo name tolls (file_at files name) (file_at files tolls) (O.written out.old) (O.written out.new) result }
     ensures generated { (number : ℕ) → job_of (texts words.now) ≡ Some (generate number)
         → WasWritten result → Prints (canonical_text (generated number)) 0 (O.written out.old) (O.written out.new) result }
     ensures usage { job_of (texts words.now) ≡ None
@@ -75,6 +80,7 @@ fn answer_to<S: Shelf>(alloc: Global, words: &[String], shelf: &mut S) -> Result
     match command_of(words) {
         None => usage(alloc),
         Some(Command::OnFile(job, file)) => answer_on_file(alloc, job, file, shelf),
+        Some(Command::Evaluate(file, tolls)) => answer_on_two_files(alloc, file, tolls, shelf),
         Some(Command::Generate(number)) => answer_on_number(alloc, number),
     }
 }
@@ -87,21 +93,35 @@ fn answer_on_file<S: Shelf>(
     shelf: &mut S,
 ) -> Result<Answer, Memory>
     ensures held { S.held shelf.new ≡ S.held shelf.old }
-    ensures answer { IfOk result (λ answer. AnswersFile job (S.held shelf.old) file.now answer.status (string_bytes answer.text)) }
+    ensures answer { IfOk result (λ answer. AnswersFile (AnswersOf job) instance_limit (S.held shelf.old) file.now answer.status (string_bytes answer.text)) }
     ensures cause { IfOk result (λ answer. HasAnswerCause (S.faults shelf.old) (S.faults shelf.new) (S.misses shelf.old) (S.misses shelf.new) answer.status) }
 {
     match take_file(alloc, shelf, file, INSTANCE_LIMIT) {
         Ok(bytes) => answer_on_bytes(alloc, job, &bytes),
-        Err(TakeRefusal::Missing) => missing(alloc, file),
-        Err(TakeRefusal::Failed) => shelf_fault(alloc, file),
-        Err(TakeRefusal::TooLong) => too_long(alloc, file),
-        Err(TakeRefusal::Memory) => Err(Memory),
+        Err(refusal) => not_taken(alloc, file, refusal),
+    }
+}
+
+// The answer about the tolls of one file for the instance of another.
+fn answer_on_two_files<S: Shelf>(
+    alloc: Global,
+    file: &str,
+    tolls: &str,
+    shelf: &mut S,
+) -> Result<Answer, Memory>
+    ensures held { S.held shelf.new ≡ S.held shelf.old }
+    ensures answer { IfOk result (λ answer. AnswersFile (AnswersWithTolls (S.held shelf.old) tolls.now) instance_limit (S.held shelf.old) file.now answer.status (string_bytes answer.text)) }
+    ensures cause { IfOk result (λ answer. HasAnswerCause (S.faults shelf.old) (S.faults shelf.new) (S.misses shelf.old) (S.misses shelf.new) answer.status) }
+{
+    match take_file(alloc, shelf, file, INSTANCE_LIMIT) {
+        Ok(bytes) => eval_on_bytes(alloc, &bytes, tolls, shelf),
+        Err(refusal) => not_taken(alloc, file, refusal),
     }
 }
 
 // The answer to a job for the bytes of a file.
 fn answer_on_bytes(alloc: Global, job: FileJob, bytes: &[u8]) -> Result<Answer, Memory>
-    ensures { IfOk result (λ answer. AnswersBytes job bytes.now answer.status (string_bytes answer.text)) }
+    ensures { IfOk result (λ answer. AnswersOf job bytes.now answer.status (string_bytes answer.text)) }
 {
     match read(alloc, bytes) {
         Ok(document) => answer_on_instance(alloc, job, &document.instance),

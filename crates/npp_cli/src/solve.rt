@@ -1,5 +1,5 @@
 //! The job `solve`: the best tolls of the zero choice with the travellers' reply to them, and the basic bound.
-ghost use Rattle.std.specs.Prelude.{◌≡◌, ◌⊎◌, ◌≤◌, IfOk, string_bytes};
+ghost use Rattle.std.specs.Prelude.{◌≡◌, ◌≢◌, ◌⊎◌, ◌≤◌, IfOk, MatchBool, string_bytes};
 ghost use Rattle.npp_frac.specs.Wide.{value_of_wide};
 ghost use Rattle.npp_frac.specs.Narrow.{value_of_64};
 ghost use Rattle.npp_bounds.specs.Spans.{AreSpans};
@@ -84,10 +84,21 @@ fn first_report(
 fn status_of(lower: Frac128, upper: Frac128) -> Status
     ensures { IsStatusOf (value_of_wide lower) (value_of_wide upper) result }
 {
+    if are_equal(lower, upper) {
+        Status::Optimal
+    } else {
+        Status::Budget
+    }
+}
+
+// Whether two values are equal.
+fn are_equal(lower: Frac128, upper: Frac128) -> bool
+    ensures { MatchBool result (value_of_wide lower ≡ value_of_wide upper) (value_of_wide lower ≢ value_of_wide upper) }
+{
     match lower.cmp(upper) {
-        Ordering::Less => Status::Budget,
-        Ordering::Equal => Status::Optimal,
-        Ordering::Greater => Status::Budget,
+        Ordering::Less => false,
+        Ordering::Equal => true,
+        Ordering::Greater => false,
     }
 }
 

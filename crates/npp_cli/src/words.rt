@@ -2,7 +2,7 @@
 ghost use Rattle.std.specs.Prelude.{◌≡◌, ◌≤◌, ℕ, MatchOption, IfSome, None, Some};
 ghost use Rattle.std.specs.List.{list_all};
 ghost use Rattle.std.specs.Char.{is_ascii_digit};
-ghost use Rattle.npp_cli.specs.Words.{job_of, job_meant, number_of, texts, IsWithinDigits};
+ghost use Rattle.npp_cli.specs.Words.{job_of, job_for_one, job_for_two, job_meant, is_option, number_of, texts, IsWithinDigits};
 
 /// What is asked of the instance in a file.
 #[derive(Clone, Copy, Debug, PartialEq, Eq)]
@@ -15,11 +15,13 @@ pub enum FileJob {
     Paths,
 }
 
-/// A job, with the word that says for what it is done.
+/// A job, with the words that say for what it is done.
 #[derive(Clone, Copy)]
 pub enum Command<'w> {
     /// A job for the file of this name.
     OnFile(FileJob, &'w str),
+    /// What the tolls of the second file earn in the instance of the first.
+    Evaluate(&'w str, &'w str),
     /// The generated instance of this number.
     Generate(u32),
 }
@@ -32,12 +34,24 @@ pub fn command_of(words: &[String]) -> Option<Command<'_>>
         (λ command. job_of (texts words.now) ≡ Some (job_meant command)) }
     ensures within { IfSome result IsWithinDigits }
 {
-    if words.len() != 3 {
-        return None;
+    if words.len() == 3 {
+        return command_of_one(words[1].as_str(), words[2].as_str());
     }
-    let job = words[1].as_str();
-    let first = words[2].as_str();
-    if first.as_bytes().starts_with(b"-") {
+    if words.len() == 4 {
+        return command_of_two(words[1].as_str(), words[2].as_str(), words[3].as_str());
+    }
+    None
+}
+
+// The job of this name for one word.
+fn command_of_one<'w>(job: &str, first: &'w str) -> Option<Command<'w>>
+    ensures job { MatchOption
+        result
+        (job_for_one job.now first.now ≡ None)
+        (λ command. job_for_one job.now first.now ≡ Some (job_meant command)) }
+    ensures within { IfSome result IsWithinDigits }
+{
+    if is_option(first) {
         return None;
     }
     if job == "solve" {
@@ -56,6 +70,30 @@ pub fn command_of(words: &[String]) -> Option<Command<'_>>
         };
     }
     None
+}
+
+// The job of this name for two words.
+fn command_of_two<'w>(job: &str, first: &'w str, second: &'w str) -> Option<Command<'w>>
+    ensures job { MatchOption
+        result
+        (job_for_two job.now first.now second.now ≡ None)
+        (λ command. job_for_two job.now first.now second.now ≡ Some (job_meant command)) }
+    ensures within { IfSome result IsWithinDigits }
+{
+    if is_option(first) || is_option(second) {
+        return None;
+    }
+    if job == "eval" {
+        return Some(Command::Evaluate(first, second));
+    }
+    None
+}
+
+// Whether a word begins with a dash.
+fn is_option(word: &str) -> bool
+    ensures { result ≡ is_option word.now }
+{
+    word.as_bytes().starts_with(b"-")
 }
 
 // The number of one to six decimal digits.

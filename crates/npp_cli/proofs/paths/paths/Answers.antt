@@ -1,4 +1,4 @@
-use Rattle.std.proofs.Common.{inl, inr, string_bytes}
+use Rattle.std.proofs.Common.{inr}
 use Rattle.std.proofs.lemmas.Result.{IfOk-weaker}
 use Rattle.npp_cli.specs.declared.answers.Answer.{Answer}
 use Rattle.npp_cli.proofs.paths.paths.Goals as goal

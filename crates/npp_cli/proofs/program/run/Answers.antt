@@ -1,6 +1,6 @@
 use Rattle.std.proofs.Common.{string_bytes}
 use Rattle.npp_cli.specs.Words.{texts}
-use Rattle.npp_cli.proofs.ClaimLemmas.{prints_about, prints_done, prints_generated, prints_usage, usage_only}
+use Rattle.npp_cli.proofs.ClaimLemmas.{prints_about, prints_about_two, prints_done, prints_evaluation, prints_generated, prints_usage, usage_only}
 use Rattle.npp_cli.proofs.RunLemmas.{answers_6, runs_whole}
 use Rattle.npp_cli.proofs.program.run.Goals as goal
 
@@ -16,6 +16,16 @@ returns-in-Ok-write_whole-clause-sink g c six =
 pub returns-in-Ok-write_whole-clause-headline : goal.returns-in-Ok-write_whole-clause-headline
 returns-in-Ok-write_whole-clause-headline g c =
     prints_done (texts c.args.words.now) (g.S.Shelf.held c.args.shelf.now) (g.O.Sink.written c.args.out.now) (g.O.Sink.written c.write_whole.new.out)
+    c.in-Ok.answer.status (returns-in-Ok-write_whole-clause-answer g c)
+
+pub returns-in-Ok-write_whole-clause-evaluation : goal.returns-in-Ok-write_whole-clause-evaluation
+returns-in-Ok-write_whole-clause-evaluation g c =
+    prints_evaluation (texts c.args.words.now) (g.S.Shelf.held c.args.shelf.now) (g.O.Sink.written c.args.out.now) (g.O.Sink.written c.write_whole.new.out)
+    c.in-Ok.answer.status (returns-in-Ok-write_whole-clause-answer g c)
+
+pub returns-in-Ok-write_whole-clause-on_two_files : goal.returns-in-Ok-write_whole-clause-on_two_files
+returns-in-Ok-write_whole-clause-on_two_files g c =
+    prints_about_two (texts c.args.words.now) (g.S.Shelf.held c.args.shelf.now) (g.O.Sink.written c.args.out.now) (g.O.Sink.written c.write_whole.new.out)
     c.in-Ok.answer.status (returns-in-Ok-write_whole-clause-answer g c)
 
 pub returns-in-Ok-write_whole-clause-on_file : goal.returns-in-Ok-write_whole-clause-on_file

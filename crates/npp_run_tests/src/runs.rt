@@ -1,7 +1,7 @@
-//! Whole runs, over files in memory and over a shelf and a sink of the tests' own.
+//! Runs on one file, and on a shelf and a sink that fail.
 ghost use Rattle.std.specs.Prelude.{None};
 
-use crate::run;
+use npp_cli::run;
 use npp_outside::{Shelf, ShelfAnswer, Sink, SinkAnswer, SureShelf, SureSink};
 use std::alloc::Global;
 use std::fmt::Write;

@@ -2,7 +2,7 @@ use Rattle.std.proofs.Common.{subst}
 use Rattle.npp_frac.specs.Rational.{Rational, ◌<ℚ◌}
 use Rattle.npp_frac.specs.Wide.{value_of_wide}
 use Rattle.npp_frac.specs.Order.{≡_of_Equal, <ℚ_of_Less, >ℚ_of_Greater, <ℚ_irrefl}
-use Rattle.npp_cli.proofs.solve.status_of.Goals as goal
+use Rattle.npp_cli.proofs.solve.are_equal.Goals as goal
 
 pub returns-in-Less : goal.returns-in-Less
 returns-in-Less c same =

@@ -1,0 +1,14 @@
+-- Statuses of `eval`.
+use Rattle.std.proofs.Common.{ℕ, List}
+use Rattle.npp_net.specs.Network.{Network}
+use Rattle.npp_cli.specs.Evaluated.{AnswersTolls}
+use Rattle.npp_cli.specs.Runs.{HasAnswerCause}
+use Rattle.npp_cli.proofs.StatusLemmas.{other_4, other_5, tolls_status}
+
+-- no answer about the bytes of a tolls file has a status of the shelf
+pub tolls_cause : (faults now_faults misses now_misses status : ℕ) (net : Network) (bytes text : List ℕ) → AnswersTolls net bytes status text
+    → HasAnswerCause faults now_faults misses now_misses status
+tolls_cause faults now_faults misses now_misses status net bytes text answers = record {
+  missing = λ e. absurd (tolls_status 4 status other_4 e net bytes text answers);
+  failed = λ e. absurd (tolls_status 5 status other_5 e net bytes text answers);
+}

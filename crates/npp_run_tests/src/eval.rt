@@ -1,0 +1,453 @@
+//! Runs of `eval`, on an instance and a tolls text.
+ghost use Rattle.std.specs.Prelude.{None};
+
+use npp_cli::run;
+use npp_outside::{Shelf, ShelfAnswer, SureSink};
+use std::alloc::Global;
+use std::fmt::Write;
+use std::process::Abort;
+use std::test::Fail;
+
+const TWO_TOLLS: &str = "npp 1\nnode a\nnode b\nfree a b 10\ntoll a b 2\ntoll a b 4\npair a b 1\n";
+
+const THREE_PAIRS: &str =
+    "npp 1\nnode a\nnode b\nnode p\nnode q\nnode r\ntoll a b 2\nfree p a 0\nfree p b 10\nfree q a 0\nfree q b 8\nfree r a 0\nfree r b 5\npair p b 1\npair q b 1\npair r b 3\n";
+
+const RING: &str =
+    "npp 1\nnode x\nnode y\nnode z\ntoll x y 0\ntoll y z 0\ntoll z x 0\nfree x z 1\nfree y x 1\nfree z y 1\npair x z 1\npair y x 1\npair z y 1\n";
+
+const TOLLS_ONLY: &str = "npp 1\nnode a\nnode b\ntoll a b 1\npair a b 1\n";
+
+const USAGE: &str =
+    "usage: npp solve FILE [--budget N] [--cuts N] [--numbers W] [--brief]\n       npp check FILE CERTIFICATE\n       npp bounds FILE\n       npp paths FILE\n       npp eval FILE TOLLS\n       npp gen NUMBER\n       npp demo NUMBER [--budget N] [--cuts N] [--numbers W]\n";
+
+// Holds an instance as `file` and a tolls text as `tolls`, gives one byte a call, and fails at the tolls where it is said to.
+#[derive(Drop)]
+struct TwoFiles<'t> {
+    instance: &'t str,
+    tolls: &'t str,
+    fails: bool,
+    faults: u64,
+    misses: u64,
+}
+
+impl<'t> Shelf for TwoFiles<'t> {
+    ghost held = { λ _. None };
+
+    ghost faults = { λ shelf. shelf.faults };
+
+    ghost misses = { λ shelf. shelf.misses };
+
+    fn piece(&mut self, name: &str, at: u64, into: &mut [u8]) -> Result<usize, ShelfAnswer> {
+        if name == "tolls" && self.fails {
+            self.faults = self.faults.saturating_add(1);
+            return Err(ShelfAnswer::Failed);
+        }
+        if name != "file" && name != "tolls" {
+            self.misses = self.misses.saturating_add(1);
+            return Err(ShelfAnswer::Missing);
+        }
+        let text = if name == "file" {
+            self.instance
+        } else {
+            self.tolls
+        };
+        let bytes = text.as_bytes();
+        if at >= bytes.len() as u64 || into.is_empty() {
+            return Ok(0);
+        }
+        into[0] = bytes[at as usize];
+        Ok(1)
+    }
+}
+
+fn two_files<'t>(instance: &'t str, tolls: &'t str) -> TwoFiles<'t> {
+    TwoFiles {
+        instance,
+        tolls,
+        fails: false,
+        faults: 0,
+        misses: 0,
+    }
+}
+
+// A run of these words, after the program's name, over these files: its status and what is written are these.
+fn expect_words(
+    rt: &impl Abort,
+    alloc: Global,
+    spoken: &[&str],
+    mut shelf: TwoFiles<'_>,
+    status: u8,
+    written: &str,
+) -> Result<(), Fail> {
+    let mut words = Vec::new(alloc);
+    words.push(String::from_str(alloc, "npp")?)?;
+    for word in spoken {
+        words.push(String::from_str(alloc, *word)?)?;
+    }
+    let mut out = SureSink::new(alloc);
+    assert_eq!(rt; run(alloc, &words, &mut shelf, &mut out), status);
+    assert_eq!(rt; out.written(), written.as_bytes());
+    Ok(())
+}
+
+// What the tolls earn: the status and what is written are these.
+fn expect(
+    rt: &impl Abort,
+    alloc: Global,
+    instance: &str,
+    tolls: &str,
+    status: u8,
+    written: &str,
+) -> Result<(), Fail> {
+    let words = ["eval", "file", "tolls"];
+    expect_words(
+        rt,
+        alloc,
+        &words,
+        two_files(instance, tolls),
+        status,
+        written,
+    )
+}
+
+// Ties are for the leader, and then for the path of the least number.
+#[test]
+fn replies(rt: HostRuntime) -> Result<(), Fail> {
+    let same_cost = "npp 1\nnode a\nnode b\nfree a b 10\ntoll a b 2\ntoll a b 2\npair a b 4\n";
+    let cycle =
+        "npp 1\nnode a\nnode b\nnode c\nfree a b 10\ntoll a b 2\nfree a c 0\ntoll c a 0\npair a b 5\n";
+    let no_tolls = "npp 1\nnode a\nnode b\nfree a b 4\npair a b 1\n";
+    let rows = [
+        (
+            TWO_TOLLS,
+            "toll 0 8\ntoll 1 5\n",
+            "revenue 5\npath 0 4 5 2\n",
+        ),
+        (
+            TWO_TOLLS,
+            "toll 0 8\ntoll 1 6\n",
+            "revenue 8\npath 0 2 8 1\n",
+        ),
+        (
+            TWO_TOLLS,
+            "toll 0 1/2\ntoll 1 0\n",
+            "revenue 1/2\npath 0 2 1/2 1\n",
+        ),
+        (
+            TWO_TOLLS,
+            "toll 0 9\ntoll 1 7\n",
+            "revenue 0\npath 0 10 0 0\n",
+        ),
+        (
+            same_cost,
+            "toll 0 3\ntoll 1 3\n",
+            "revenue 12\npath 0 2 3 1\n",
+        ),
+        (
+            same_cost,
+            "toll 0 4\ntoll 1 3\n",
+            "revenue 12\npath 0 2 3 2\n",
+        ),
+        (cycle, "toll 0 8\ntoll 1 0\n", "revenue 40\npath 0 2 8 1\n"),
+        (cycle, "toll 0 8\ntoll 1 1\n", "revenue 40\npath 0 2 8 1\n"),
+        (no_tolls, "", "revenue 0\npath 0 4 0 0\n"),
+        (
+            THREE_PAIRS,
+            "toll 0 3\n",
+            "revenue 15\npath 0 2 3 1 0\npath 1 2 3 3 0\npath 2 2 3 5 0\n",
+        ),
+        (
+            THREE_PAIRS,
+            "toll 0 6\n",
+            "revenue 12\npath 0 2 6 1 0\npath 1 2 6 3 0\npath 2 5 0 6\n",
+        ),
+        (
+            THREE_PAIRS,
+            "toll 0 13/2\n",
+            "revenue 13/2\npath 0 2 13/2 1 0\npath 1 8 0 4\npath 2 5 0 6\n",
+        ),
+        (
+            RING,
+            "toll 0 1/2\ntoll 1 1/2\ntoll 2 1/2\n",
+            "revenue 3\npath 0 0 1 0 1\npath 1 0 1 1 2\npath 2 0 1 2 0\n",
+        ),
+        (
+            RING,
+            "toll 0 1\ntoll 1 0\ntoll 2 0\n",
+            "revenue 2\npath 0 0 1 0 1\npath 1 0 0 1 2\npath 2 0 1 2 0\n",
+        ),
+    ];
+    for (instance, lines, written) in rows {
+        let tolls = format!(in rt.alloc(); "npp-tolls 1\n{lines}")?;
+        expect(&rt, rt.alloc(), instance, tolls.as_str(), 0, written)?;
+    }
+    Ok(())
+}
+
+// Each text has a line that may not stand where it does.
+#[test]
+fn refused_lines(rt: HostRuntime) -> Result<(), Fail> {
+    let rows = [
+        ("", 1),
+        ("npp-tolls 1", 1),
+        ("npp-tolls 2\ntoll 0 8\ntoll 1 5\n", 1),
+        ("npp-tolls 1\r\ntoll 0 8\ntoll 1 5\n", 1),
+        ("npp-tolls  1\ntoll 0 8\ntoll 1 5\n", 1),
+        ("\nnpp-tolls 1\ntoll 0 8\ntoll 1 5\n", 1),
+        ("npp-tolls 1\n", 2),
+        ("npp-tolls 1\ntoll 0 8", 2),
+        ("npp-tolls 1\ntoll 0 16/2\ntoll 1 5\n", 2),
+        ("npp-tolls 1\ntoll 0 8/1\ntoll 1 5\n", 2),
+        ("npp-tolls 1\ntoll 0 -1\ntoll 1 5\n", 2),
+        ("npp-tolls 1\ntoll 0 -0\ntoll 1 5\n", 2),
+        ("npp-tolls 1\ntoll 0 +8\ntoll 1 5\n", 2),
+        ("npp-tolls 1\ntoll 0 08\ntoll 1 5\n", 2),
+        ("npp-tolls 1\ntoll 0 8.5\ntoll 1 5\n", 2),
+        ("npp-tolls 1\ntoll 00 8\ntoll 1 5\n", 2),
+        ("npp-tolls 1\ntoll 0  8\ntoll 1 5\n", 2),
+        ("npp-tolls 1\ntoll 0 8 \ntoll 1 5\n", 2),
+        ("npp-tolls 1\n\ntoll 0 8\ntoll 1 5\n", 2),
+        ("npp-tolls 1\ntoll 1 5\ntoll 0 8\n", 2),
+        (
+            "npp-tolls 1\ntoll 0 170141183460469231731687303715884105728\ntoll 1 5\n",
+            2,
+        ),
+        ("npp-tolls 1\ntoll 0 8\n", 3),
+        ("npp-tolls 1\ntoll 0 8\ntoll 1 5", 3),
+        ("npp-tolls 1\ntoll 0 8\ntoll 0 5\n", 3),
+        ("npp-tolls 1\ntoll 0 8\ntoll 2 5\n", 3),
+        ("npp-tolls 1\ntoll 0 8\ntoll 1 5\n\n", 4),
+        ("npp-tolls 1\ntoll 0 8\ntoll 1 5\nx", 4),
+        ("npp-tolls 1\ntoll 0 8\ntoll 1 5\ntoll 2 0\n", 4),
+    ];
+    for (tolls, line) in rows {
+        let written = format!(in rt.alloc(); "refused tolls line {line}\n")?;
+        expect(&rt, rt.alloc(), TWO_TOLLS, tolls, 9, written.as_str())?;
+    }
+    Ok(())
+}
+
+// A toll may be as great as its ceiling, and no greater.
+#[test]
+fn ceilings(rt: HostRuntime) -> Result<(), Fail> {
+    let refused = "refused tolls line 2\n";
+    let free = "revenue 0\npath 0 10 0 0\n";
+    let rows = [
+        ("3", "3", 0, "revenue 15\npath 0 2 3 1\n"),
+        ("3", "5/2", 0, "revenue 25/2\npath 0 2 5/2 1\n"),
+        ("3", "4", 9, refused),
+        ("3", "7/2", 9, refused),
+        ("20", "8", 0, "revenue 40\npath 0 2 8 1\n"),
+        ("20", "20", 0, free),
+        ("20", "21", 9, refused),
+        ("-", "21", 0, free),
+        ("0", "0", 0, "revenue 0\npath 0 2 0 1\n"),
+        ("0", "1/2", 9, refused),
+    ];
+    for (ceiling, toll, status, written) in rows {
+        let instance = format!(in rt.alloc();
+            "npp 2\nnode a\nnode b\nfree a b 10\ntoll a b 2 {ceiling}\npair a b 5\n"
+        )?;
+        let tolls = format!(in rt.alloc(); "npp-tolls 1\ntoll 0 {toll}\n")?;
+        expect(
+            &rt,
+            rt.alloc(),
+            instance.as_str(),
+            tolls.as_str(),
+            status,
+            written,
+        )?;
+    }
+    Ok(())
+}
+
+// The greatest number of 128 bits is 2^127 - 1. With 0 each sum fits, and by its number each product with a whole one.
+#[test]
+fn numbers_that_do_not_fit(rt: HostRuntime) -> Result<(), Fail> {
+    let most = "170141183460469231731687303715884105727";
+    let cost_0 = "npp 1\nnode a\nnode b\nfree a b 10\ntoll a b 0\npair a b 5\n";
+    let second =
+        "npp 1\nnode a\nnode b\nnode c\nnode d\nfree a b 1\nfree c d 10\ntoll c d 1\npair a b 1\npair c d 1\n";
+    let both =
+        "npp 1\nnode a\nnode b\nnode c\nnode d\nfree a b 10\ntoll a b 0\nfree c d 10\ntoll c d 0\npair a b 5\npair c d 1\n";
+    let rows = [
+        (TWO_TOLLS, most, "toll 1 5\n", 8, "refused overflow 0\n"),
+        (second, most, "", 8, "refused overflow 1\n"),
+        (cost_0, most, "", 0, "revenue 0\npath 0 10 0 0\n"),
+        (
+            cost_0,
+            "1/170141183460469231731687303715884105727",
+            "",
+            0,
+            "revenue 5/170141183460469231731687303715884105727\npath 0 0 1/170141183460469231731687303715884105727 1\n",
+        ),
+        (
+            both,
+            "1/170141183460469231731687303715884105727",
+            "toll 1 1\n",
+            8,
+            "refused overflow 1\n",
+        ),
+    ];
+    for (instance, toll, rest, status, written) in rows {
+        let tolls = format!(in rt.alloc(); "npp-tolls 1\ntoll 0 {toll}\n{rest}")?;
+        expect(&rt, rt.alloc(), instance, tolls.as_str(), status, written)?;
+    }
+    Ok(())
+}
+
+// So many links in a row, each a toll-free arc of cost 1 beside a toll arc of cost 0.
+fn chain(alloc: Global, links: u32) -> Result<String, Fail> {
+    let mut text = String::from_str(alloc, "npp 1\nnode v0\n")?;
+    for i in 0..links {
+        let next = i + 1;
+        writeln!(
+            text,
+            "node v{next}\nfree v{i} v{next} 1\ntoll v{i} v{next} 0"
+        )?;
+    }
+    writeln!(text, "pair v0 v{links} 1")?;
+    Ok(text)
+}
+
+// A tolls text in which each of so many toll arcs has this toll.
+fn equal_tolls(alloc: Global, count: u32, toll: &str) -> Result<String, Fail> {
+    let mut text = String::from_str(alloc, "npp-tolls 1\n")?;
+    for number in 0..count {
+        writeln!(text, "toll {number} {toll}")?;
+    }
+    Ok(text)
+}
+
+// 11 links have 2,048 useful paths. A limit is judged after the tolls, and before numbers.
+#[test]
+fn over_a_limit(rt: HostRuntime) -> Result<(), Fail> {
+    let most = "170141183460469231731687303715884105727";
+    let rows = [
+        (11, "1", 11, "refused too-many-paths 0\n"),
+        (11, most, 11, "refused too-many-paths 0\n"),
+        (11, "-1", 9, "refused tolls line 2\n"),
+    ];
+    for (links, toll, status, written) in rows {
+        let instance = chain(rt.alloc(), links)?;
+        let tolls = equal_tolls(rt.alloc(), links, toll)?;
+        expect(
+            &rt,
+            rt.alloc(),
+            instance.as_str(),
+            tolls.as_str(),
+            status,
+            written,
+        )?;
+    }
+    Ok(())
+}
+
+// Under these tolls each of the 128 toll arcs is as dear as the toll-free one, and the first pays the most.
+#[test]
+fn as_many_toll_arcs_as_there_may_be(rt: HostRuntime) -> Result<(), Fail> {
+    let alloc = rt.alloc();
+    let mut instance = String::from_str(alloc, "npp 1\nnode a\nnode b\nfree a b 200\n")?;
+    let mut tolls = String::from_str(alloc, "npp-tolls 1\n")?;
+    for cost in 0..128_u32 {
+        writeln!(instance, "toll a b {cost}")?;
+        writeln!(tolls, "toll {cost} {}", 200_u32.saturating_sub(cost))?;
+    }
+    writeln!(instance, "pair a b 1")?;
+    let written = "revenue 200\npath 0 0 200 1\n";
+    expect(&rt, alloc, instance.as_str(), tolls.as_str(), 0, written)
+}
+
+// The first cause is named: the instance before the tolls, these before what the instance lacks.
+#[test]
+fn order_of_refusals(rt: HostRuntime) -> Result<(), Fail> {
+    let good = "npp-tolls 1\ntoll 0 3\n";
+    let short = "npp-tolls 1\n";
+    let no_pair = "refused instance line 2 NoCommodity\n";
+    let rows = [
+        ("eval", "none", "tolls", "", good, 4, "missing none\n"),
+        (
+            "eval",
+            "file",
+            "none",
+            TOLLS_ONLY,
+            good,
+            4,
+            "missing none\n",
+        ),
+        ("eval", "file", "none", "npp 1\n", good, 3, no_pair),
+        (
+            "eval",
+            "file",
+            "tolls",
+            TOLLS_ONLY,
+            short,
+            9,
+            "refused tolls line 2\n",
+        ),
+        (
+            "eval",
+            "file",
+            "tolls",
+            TOLLS_ONLY,
+            good,
+            10,
+            "refused no-free-path 0\n",
+        ),
+        ("eval", "-x", "tolls", TOLLS_ONLY, good, 2, USAGE),
+        ("eval", "file", "--tolls", TOLLS_ONLY, good, 2, USAGE),
+        ("price", "file", "tolls", TOLLS_ONLY, good, 2, USAGE),
+        ("solve", "file", "tolls", TOLLS_ONLY, good, 2, USAGE),
+    ];
+    for (job, first, second, instance, tolls, status, written) in rows {
+        let words = [job, first, second];
+        let files = two_files(instance, tolls);
+        expect_words(&rt, rt.alloc(), &words, files, status, written)?;
+    }
+    Ok(())
+}
+
+// `eval` asks for two words and no more.
+#[test]
+fn too_few_and_too_many_words(rt: HostRuntime) -> Result<(), Fail> {
+    let few = ["eval", "file"];
+    expect_words(&rt, rt.alloc(), &few, two_files(TOLLS_ONLY, ""), 2, USAGE)?;
+    let many = ["eval", "file", "tolls", "tolls"];
+    expect_words(&rt, rt.alloc(), &many, two_files(TOLLS_ONLY, ""), 2, USAGE)
+}
+
+#[test]
+fn a_shelf_that_fails_at_the_tolls(rt: HostRuntime) -> Result<(), Fail> {
+    let mut shelf = two_files(TOLLS_ONLY, "");
+    shelf.fails = true;
+    let words = ["eval", "file", "tolls"];
+    expect_words(&rt, rt.alloc(), &words, shelf, 5, "shelf fault tolls\n")
+}
+
+// A tolls file may have 65,536 bytes.
+#[test]
+fn long_tolls(rt: HostRuntime) -> Result<(), Fail> {
+    let alloc = rt.alloc();
+    let mut text = String::new(alloc);
+    for _ in 0..65_536_u32 {
+        text.push_str("#")?;
+    }
+    expect(
+        &rt,
+        alloc,
+        TWO_TOLLS,
+        text.as_str(),
+        9,
+        "refused tolls line 1\n",
+    )?;
+    text.push_str("#")?;
+    expect(
+        &rt,
+        alloc,
+        TWO_TOLLS,
+        text.as_str(),
+        12,
+        "refused too-long tolls\n",
+    )
+}

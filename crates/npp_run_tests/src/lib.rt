@@ -1,0 +1,7 @@
+//! Tests of whole runs of the program, on the bytes that are written. They stand apart, so that the program's crate is proved once.
+#![tactic(auto)]
+
+#[cfg(test)]
+mod eval;
+#[cfg(test)]
+mod runs;
