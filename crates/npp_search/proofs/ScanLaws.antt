@@ -3,7 +3,6 @@ use Rattle.std.proofs.Common.{◌≡◌, inl, inr, ℕ, zero, suc, ◌+◌, ◌<
 use Rattle.std.specs.Prelude.{slice_index_or}
 use Rattle.std.proofs.lemmas.Bool.{cases_lt}
 use Rattle.std.proofs.lemmas.List.{get_or_default}
-use Rattle.npp_frac.specs.Rational.{◌≤ℚ◌}
 use Rattle.npp_search.specs.declared.picker.OpenNode.{OpenNode}
 use Rattle.npp_search.specs.Picker.{IsBetterBound, IsFirstBy, IsGreatestAt}
 use Rattle.npp_search.specs.PickerLaws.{better_bound}

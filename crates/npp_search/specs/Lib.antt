@@ -1,2 +1,13 @@
+pub mod Problem
+pub mod Grown
 pub mod Picker
 pub mod PickerLaws
+pub mod Rule
+pub mod Scan
+pub mod Turn
+pub mod Offer
+pub mod Search
+pub mod Steps
+pub mod Result
+pub mod Outcome
+pub mod Ending
