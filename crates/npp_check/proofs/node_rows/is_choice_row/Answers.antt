@@ -1,0 +1,11 @@
+use Rattle.std.proofs.Common.{sym, subst, IsTrue, nat_lt}
+use Rattle.npp_rows.specs.declared.names.RowName.{RowName}
+use Rattle.npp_rows.specs.Caps.{path_model}
+use Rattle.npp_rows.specs.Rows.{IsChoiceRow}
+use Rattle.npp_check.proofs.RowLemmas.{cap_test}
+use Rattle.npp_check.proofs.node_rows.is_choice_row.Goals as goal
+
+pub returns-in-Cap : goal.returns-in-Cap
+returns-in-Cap c =
+    subst (λ (r : RowName). (IsTrue (nat_lt c.in-Cap.toll c.tolls.result) → IsChoiceRow (path_model c.args.instance.now c.args.covers.now) r) × (IsChoiceRow (path_model c.args.instance.now c.args.covers.now) r → IsTrue (nat_lt c.in-Cap.toll c.tolls.result)))
+    (sym c.in-Cap.is) (cap_test c.args.instance.now c.args.covers.now c.in-Cap.toll c.tolls.result c.tolls.ensures.count)

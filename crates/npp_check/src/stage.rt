@@ -1,0 +1,137 @@
+//! Where a checker stands between two lines.
+
+use crate::block::{CutBlock, NodeBlock};
+use crate::descent::{Descent, Sum};
+use crate::known::{Head, Known, OpenCover, Printed};
+use npp_cover::Cover;
+use npp_tree::{Bound, Pair, PathLine, Status};
+
+/// Which line comes next, with what the lines above it leave to be known. The second form of a certificate names the
+/// instance.
+#[derive(Drop)]
+pub enum Stage<N> {
+    /// The first line.
+    Header,
+    /// How the search ended.
+    Status {
+        /// Whether the certificate is in the second form.
+        two: bool,
+    },
+    /// The width.
+    Width {
+        /// Whether the certificate is in the second form.
+        two: bool,
+        /// How the search ended.
+        status: Status,
+    },
+    /// The lower value.
+    Lower {
+        /// Whether the certificate is in the second form.
+        two: bool,
+        /// How the search ended.
+        status: Status,
+    },
+    /// The upper value.
+    Upper {
+        /// Whether the certificate is in the second form.
+        two: bool,
+        /// How the search ended.
+        status: Status,
+        /// The lower value.
+        lower: N,
+    },
+    /// The number of opened nodes.
+    Opened {
+        /// Whether the certificate is in the second form.
+        two: bool,
+        /// How the search ended.
+        status: Status,
+        /// The lower value.
+        lower: N,
+        /// The upper value.
+        upper: N,
+    },
+    /// The sizes of the instance.
+    Instance {
+        /// What the head says.
+        head: Head<N>,
+    },
+    /// A ceiling.
+    Limits {
+        /// What the head says.
+        head: Head<N>,
+        /// How many ceilings stand above.
+        taken: u32,
+    },
+    /// A toll.
+    Tolls {
+        /// What the head says.
+        head: Head<N>,
+        /// The tolls above.
+        tolls: Vec<N>,
+    },
+    /// A walk.
+    Paths {
+        /// What the head says.
+        head: Head<N>,
+        /// The tolls.
+        tolls: Vec<N>,
+        /// The walks above.
+        paths: Vec<PathLine<N>>,
+    },
+    /// The head of a cover, or the number of cuts where all covers stand.
+    Covers {
+        /// What stands above the covers.
+        printed: Printed<N>,
+        /// The covers above.
+        covers: Vec<Cover>,
+    },
+    /// A label of a cover, or its toll-free walk where all its labels stand.
+    Labels {
+        /// What stands above the covers.
+        printed: Printed<N>,
+        /// The cover, with those above it.
+        cover: OpenCover,
+    },
+    /// A cut, or the head of the tree where all cuts stand.
+    Cuts {
+        /// What stands above.
+        known: Known<N>,
+        /// How many cuts are still to come.
+        left: u32,
+    },
+    /// A multiplier of a cut.
+    CutMultipliers {
+        /// What stands above the cut.
+        known: Known<N>,
+        /// How many cuts are still to come behind it.
+        left: u32,
+        /// The cut.
+        block: CutBlock<N>,
+    },
+    /// A node.
+    Nodes(Descent<N>),
+    /// A multiplier of the first node's evidence.
+    Multipliers {
+        /// The tree.
+        descent: Descent<N>,
+        /// The evidence.
+        block: NodeBlock<N>,
+    },
+    /// The line behind the evidence of the first node.
+    Branch {
+        /// The tree.
+        descent: Descent<N>,
+        /// The bound of the node.
+        bound: Bound,
+    },
+    /// The last line.
+    End {
+        /// What stands above the tree.
+        known: Known<N>,
+        /// What its nodes add up to.
+        sum: Sum,
+    },
+    /// Nothing: the last line stands above.
+    Behind(Pair),
+}
