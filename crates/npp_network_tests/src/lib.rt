@@ -1,4 +1,4 @@
-//! Tests of the crates on files, networks and covers. They stand apart, so that each of these crates is proved once.
+//! Tests of the crates on networks and covers. They stand apart, so that each of these crates is proved once.
 #![tactic(auto)]
 
 #[cfg(test)]
@@ -11,8 +11,6 @@ mod labels;
 mod net;
 #[cfg(test)]
 mod network;
-#[cfg(test)]
-mod outside;
 #[cfg(test)]
 mod reader;
 #[cfg(test)]

@@ -1,3 +1,4 @@
 pub mod Causes
+pub mod Failing
 pub mod Shelf
 pub mod Sink
