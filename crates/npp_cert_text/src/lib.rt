@@ -13,7 +13,7 @@ mod words;
 mod written;
 
 pub use laws::{line_and_item_are_inverse, short_lists_have_lines, text_and_items_are_inverse};
-pub use printing::print_line;
+pub use printing::{print_line, write_item};
 pub use reading::read_line;
 
 /// The most bytes of a line, without its line feed.

@@ -33,8 +33,9 @@ pub fn print_line(alloc: Global, item: &Item<Frac128>) -> Result<Vec<u8>, Memory
     Ok(text.into_bytes())
 }
 
-/// The line of an item at the end of a text, without its line feed.
-fn write_item<N: Exact>(alloc: Global, text: &mut String, item: &Item<N>) -> Result<(), Memory>
+/// The line of an item at the end of a text, without its line feed. The item may be one that has no line: what stands
+/// there is then the text of no line.
+pub fn write_item<N: Exact>(alloc: Global, text: &mut String, item: &Item<N>) -> Result<(), Memory>
     ensures { OnOk result (line (string_bytes text.new) ≡ string_bytes text.old ++ item_line (item_of N.rational item.now)) }
 {
     match item {
