@@ -1,0 +1,4 @@
+pub mod NamedLemmas
+pub mod StreamLemmas
+pub mod PieceLemmas
+pub mod FileLemmas
