@@ -156,12 +156,35 @@ try_output() {
 try_statuses() {
   check "an optimal report" "$(seen "$program" solve "$top/examples/no-toll-arc.npp" | sed -n '1p; 2p')" \
     $'0 npp-certificate 1\nstatus optimal'
+  check "an optimum where floating point is wrong" \
+    "$(seen "$program" solve "$top/examples/one-toll.npp" | sed -n '1p; 2p; 4p; 5p')" \
+    $'0 npp-certificate 1\nstatus optimal\nlower 1900001\nupper 1900001'
+  "$program" solve "$top/examples/one-toll.npp" > certificate
+  check "its certificate" "$(seen "$program" check "$top/examples/one-toll.npp" certificate)" \
+    "0 accepted lower 1900001 upper 1900001"
+  sed 's/^upper 1900001$/upper 1900000/' certificate > spoiled
+  check "its certificate spoiled by hand" "$(seen "$program" check "$top/examples/one-toll.npp" spoiled)" \
+    "9 refused certificate line $(wc -l < certificate) Upper"
+  check "a certificate that is not there" "$(seen "$program" check "$top/examples/one-toll.npp" none)" "4 missing none"
   check "no free path" "$(seen "$program" solve "$top/examples/no-free-path.npp")" "10 refused no-free-path 0"
   check "too many paths" "$(seen "$program" paths "$top/examples/too-many-paths.npp")" "11 refused too-many-paths 0"
   check "tolls of another file" "$(seen "$program" eval "$top/examples/parallel-tolls.npp" "$top/examples/parallel-tolls.tolls")" \
     $'0 revenue 5\npath 0 4 5 2'
   check "no file of tolls" "$(seen "$program" eval "$top/examples/parallel-tolls.npp" none)" "4 missing none"
   check "no words" "$(seen "$program" | cut -c1-7 | head -n 1)" "2 usage"
+}
+
+# What the program prints it takes again, and a change by hand is found.
+try_certificates() {
+  "$program" solve short > certificate || true
+  check "a certificate" "$(seen "$program" check short certificate)" "0 accepted lower 40 upper 40"
+  sed 's/^upper 40$/upper 39/' certificate > spoiled
+  check "a certificate with a smaller upper value" "$(seen "$program" check short spoiled)" \
+    "9 refused certificate line 16 Upper"
+  head -c -1 certificate > cut
+  check "a certificate without its last byte" "$(seen "$program" check short cut)" "9 refused certificate line 16 Text"
+  check "no certificate" "$(seen "$program" check short none)" "4 missing none"
+  check "a folder for a certificate" "$(seen "$program" check short folder)" "5 shelf fault folder"
 }
 
 programs=("$@")
@@ -176,6 +199,7 @@ for built in "${programs[@]}"; do
   try_files
   try_output
   try_statuses
+  try_certificates
 done
 [ -e program ] || check "a program" "none" "one that rt ci or the launcher left"
 # Where all is well the count of `rt ci` stays the last one of the gate.

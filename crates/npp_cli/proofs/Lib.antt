@@ -1,3 +1,5 @@
+pub mod AcceptLemmas
+pub mod CheckLemmas
 pub mod ClaimLemmas
 pub mod EvalLemmas
 pub mod FileLemmas

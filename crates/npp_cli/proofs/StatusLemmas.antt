@@ -17,7 +17,8 @@ use Rattle.npp_cli.specs.Listed.{AnswersLimit}
 use Rattle.npp_eval.specs.declared.refusal.EvalRefusal.{EvalRefusal}
 use Rattle.npp_eval.specs.declared.refusal.EvalRefusal.TheVariants as eval
 use Rattle.npp_cli.specs.Evaluated.{AnswersEvalRefusal, AnswersTolls}
-use Rattle.npp_cli.specs.Answers.{exit_status, IsDone, AnswersInstance, AnswersFault, AnswersContent, AnswersFile, AnswersOf, AnswersWithTolls, instance_limit, tolls_limit}
+use Rattle.npp_cli.specs.Checked.{AnswersCertificate}
+use Rattle.npp_cli.specs.Answers.{exit_status, IsDone, AnswersChecked, AnswersConnected, AnswersContent, AnswersFault, AnswersFile, AnswersHeld, AnswersInstance, AnswersOf, AnswersWithCertificate, AnswersWithTolls, instance_limit, tolls_limit}
 
 -- none of the statuses of an answer about the bytes of a file
 pub record IsOther (n : ℕ) : Type 0 where
@@ -40,15 +41,21 @@ limit_status n status other is (TooManyPaths k) text answers = other.not_11 (sym
 limit_status n status other is _ text answers = absurd answers
 
 done_status : (n status : ℕ) → IsOther n → status ≡ n → (job : FileJob) (net : Network) (text : List ℕ) → IsDone job net status text → ⊥
-done_status n status other is Solve net text (inl solved) = report_status n status other is solved.report.status solved.is_status
-done_status n status other is Solve net text (inr over) = limit_status n status other is over.refusal text over.answers
+done_status n status other is (Solve budget brief) net text (inl solved) = report_status n status other is solved.outcome.status solved.is_status
+done_status n status other is (Solve budget brief) net text (inr over) = limit_status n status other is over.refusal text over.answers
 done_status n status other is Bounds net text done = other.not_0 (sym is ∙ done.is_status)
 done_status n status other is Paths net text (inl listed) = other.not_0 (sym is ∙ listed.is_status)
 done_status n status other is Paths net text (inr over) = limit_status n status other is over.refusal text over.answers
 
+-- where no answer about a connected instance has the status, none about an instance has
+connected_status : (n status : ℕ) → IsOther n → status ≡ n → (about : ℕ → List ℕ → Type 0) (net : Network) (text : List ℕ)
+    → (about status text → ⊥) → AnswersConnected about net status text → ⊥
+connected_status n status other is about net text never (inl refused) = other.not_10 (sym is ∙ refused.2)
+connected_status n status other is about net text never (inr answers) = never answers.1
+
 instance_status : (n status : ℕ) → IsOther n → status ≡ n → (job : FileJob) (net : Network) (text : List ℕ) → AnswersInstance job net status text → ⊥
-instance_status n status other is job net text (inl refused) = other.not_10 (sym is ∙ refused.2)
-instance_status n status other is job net text (inr done) = done_status n status other is job net text done.1
+instance_status n status other is job net text answers =
+    connected_status n status other is (IsDone job net) net text (done_status n status other is job net text) answers
 
 -- of what is said about tolls
 eval_refusal_status : (n status : ℕ) → IsOther n → status ≡ n → (refusal : EvalRefusal) (text : List ℕ) → AnswersEvalRefusal refusal status text → ⊥
@@ -91,12 +98,17 @@ content_status n status none is about limit name text never (Some bytes) answers
     by_length true answers = none.not_12 (sym is ∙ answers.0)
     by_length false answers = never bytes answers
 
+held_status : (n status : ℕ) → IsNoShelfStatus n → status ≡ n → (about : Option (List ℕ) → ℕ → List ℕ → Type 0) (name text : List ℕ)
+    → ((file : Option (List ℕ)) → about file status text → ⊥) → (held : Option Files) → AnswersHeld about held name status text → ⊥
+held_status n status none is about name text never None (inl failed) = none.not_5 (sym is ∙ failed.0)
+held_status n status none is about name text never None (inr (file, answers)) = never file answers
+held_status n status none is about name text never (Some files) (inl failed) = none.not_5 (sym is ∙ failed.0)
+held_status n status none is about name text never (Some files) (inr answers) = never (file_at files name) answers
+
 file_status : (n status : ℕ) → IsNoShelfStatus n → status ≡ n → (about : List ℕ → ℕ → List ℕ → Type 0) (limit : ℕ) (name text : List ℕ)
     → ((bytes : List ℕ) → about bytes status text → ⊥) → (held : Option Files) → AnswersFile about limit held name status text → ⊥
-file_status n status none is about limit name text never None (inl failed) = none.not_5 (sym is ∙ failed.0)
-file_status n status none is about limit name text never None (inr (file, answers)) = content_status n status none is about limit name text never file answers
-file_status n status none is about limit name text never (Some files) (inl failed) = none.not_5 (sym is ∙ failed.0)
-file_status n status none is about limit name text never (Some files) (inr answers) = content_status n status none is about limit name text never (file_at files name) answers
+file_status n status none is about limit name text never held answers =
+    held_status n status none is (AnswersContent about limit name) name text (content_status n status none is about limit name text never) held answers
 
 pub on_file_status : (n status : ℕ) → IsOther n → IsNoShelfStatus n → status ≡ n
     → (job : FileJob) (held : Option Files) (name text : List ℕ) → AnswersFile (AnswersOf job) instance_limit held name status text → ⊥
@@ -110,6 +122,28 @@ on_two_status n status other none is held name tolls text answers =
     file_status n status none is (AnswersWithTolls held tolls) instance_limit name text
     (λ bytes. read_status n status other is OnTolls text
     (λ net. file_status n status none is (AnswersTolls net) tolls_limit tolls text (λ bytes. tolls_status n status other is net bytes text) held) (reading_of bytes))
+    held answers
+
+-- of what is said about certificates
+certificate_status : (n status : ℕ) → IsOther n → IsNoShelfStatus n → status ≡ n → (net : Network) (name text : List ℕ) (file : Option (List ℕ))
+    → AnswersCertificate net name file status text → ⊥
+certificate_status n status other none is net name text None answers = none.not_4 (sym is ∙ answers.0)
+certificate_status n status other none is net name text (Some bytes) (inl (inl accepted)) = other.not_0 (sym is ∙ accepted.is_status)
+certificate_status n status other none is net name text (Some bytes) (inl (inr refused)) = other.not_9 (sym is ∙ refused.is_status)
+certificate_status n status other none is net name text (Some bytes) (inr long) = none.not_12 (sym is ∙ long.1)
+
+checked_status : (n status : ℕ) → IsOther n → IsNoShelfStatus n → status ≡ n
+    → (held : Option Files) (certificate text : List ℕ) (net : Network) → AnswersChecked held certificate net status text → ⊥
+checked_status n status other none is held certificate text net answers =
+    connected_status n status other is (AnswersHeld (AnswersCertificate net certificate) held certificate) net text
+    (held_status n status none is (AnswersCertificate net certificate) certificate text (certificate_status n status other none is net certificate text) held)
+    answers
+
+pub on_certificate_status : (n status : ℕ) → IsOther n → IsNoShelfStatus n → status ≡ n
+    → (held : Option Files) (name certificate text : List ℕ) → AnswersFile (AnswersWithCertificate held certificate) instance_limit held name status text → ⊥
+on_certificate_status n status other none is held name certificate text answers =
+    file_status n status none is (AnswersWithCertificate held certificate) instance_limit name text
+    (λ bytes. read_status n status other is (AnswersChecked held certificate) text (checked_status n status other none is held certificate text) (reading_of bytes))
     held answers
 
 pub other_2 : IsOther 2

@@ -1,13 +1,11 @@
--- The job of so many words.
-use Rattle.std.proofs.Common.{◌≡◌, List, [], ◌∷◌, length, get_or, sym, ap₂, arith}
-use Rattle.std.specs.Prelude.{String, string_bytes}
-use Rattle.std.specs.declared.alloc.Global.{Global}
-use Rattle.npp_cli.specs.Words.{job_of, job_for_one, texts}
+-- The job of what the words give.
+use Rattle.std.proofs.Common.{◌≡◌, List, ℕ, Some, None, ap}
+use Rattle.std.specs.Prelude.{option_and_then}
+use Rattle.npp_words.specs.Given.{GivenValue, given_of}
+use Rattle.npp_cli.specs.Words.{job_in, job_of}
 
-pub job_of_three : (words : List (String Global)) (job first : String Global) → length words ≡ 3 → job ≡ get_or words 1 job → first ≡ get_or words 2 first
-    → job_of (texts words) ≡ job_for_one (string_bytes job) (string_bytes first)
-job_of_three [] job first three is_job is_first = absurd (omega (arith, three))
-job_of_three (a ∷ []) job first three is_job is_first = absurd (omega (arith, three))
-job_of_three (a ∷ b ∷ []) job first three is_job is_first = absurd (omega (arith, three))
-job_of_three (a ∷ b ∷ c ∷ []) job first three is_job is_first = ap₂ (λ x y. job_for_one (string_bytes x) (string_bytes y)) (sym is_job) (sym is_first)
-job_of_three (a ∷ b ∷ c ∷ d ∷ rest) job first three is_job is_first = absurd (omega (arith, three))
+pub job_given : (words : List (List ℕ)) (given : GivenValue) → given_of words ≡ Some given → job_of words ≡ job_in given
+job_given words given is = ap (option_and_then job_in) is
+
+pub job_refused : (words : List (List ℕ)) → given_of words ≡ None → job_of words ≡ None
+job_refused words is = ap (option_and_then job_in) is

@@ -1,50 +1,35 @@
--- What a printed report has to be true of, and which report `solve` prints.
-use Rattle.std.specs.Prelude.{◌≡◌, ◌≢◌, pos, List}
-use Rattle.npp_frac.specs.Rational.{Rational, whole}
-use Rattle.npp_frac.specs.Fits.{limit_of}
-use Rattle.npp_net.specs.declared.types.Span.{Span}
+-- What a printed report has to be true of, and which search it comes from.
+use Rattle.std.specs.Prelude.{◌≡◌, ◌↔◌, ℕ}
 use Rattle.npp_net.specs.Network.{Network}
 use Rattle.npp_net.specs.Outcome.{IsUpperBound}
-use Rattle.npp_bounds.specs.Spans.{AreSpans, basic}
-use Rattle.npp_cover.specs.Replaces.{CoverValue}
-use Rattle.npp_labels.specs.Covers.{AreUsefulCovers}
-use Rattle.npp_rows.specs.Caps.{path_model}
-use Rattle.npp_rows.specs.Response.{reply}
-use Rattle.npp_tree.specs.declared.outcome.Status.{Status}
-use Rattle.npp_tree.specs.declared.outcome.Status.TheVariants.{Optimal, Budget, Overflow}
+use Rattle.npp_rows.specs.Parts.{all_paths}
+use Rattle.npp_tree.specs.declared.outcome.Status.TheVariants.{Optimal}
+use Rattle.npp_tree.specs.Outcome.{OutcomeValue}
 use Rattle.npp_report.specs.Report.{ReportValue}
 use Rattle.npp_start.specs.Allowed.{AreAllowed}
-use Rattle.npp_start.specs.Start.{start_tolls}
-use Rattle.npp_start.specs.Walks.{IsReplyTo, reply_lines}
-
--- the value is the basic bound of the network
-pub record IsBasicBound (net : Network) (value : Rational) : Type 0 where
-  pub spans : List Span
-  pub are_spans : AreSpans net.arcs net.commodities spans
-  pub is_basic : value ≡ whole (pos (basic net.commodities spans))
-
--- optimal where the two values are equal, and else that the budget is used up
-abbrev pub IsStatusOf : Rational → Rational → Status → Type 0
-IsStatusOf lower upper Optimal = lower ≡ upper
-IsStatusOf lower upper Budget = lower ≢ upper
-IsStatusOf lower upper Overflow = ⊥
+use Rattle.npp_start.specs.Walks.{IsReplyTo}
+use Rattle.npp_search.specs.Problem.{Problem}
+use Rattle.npp_search.specs.Grown.{HasFewNodes}
+use Rattle.npp_search.specs.Outcome.{IsGrownOutcome, IsOutcomeBestFirst, IsBetween, MustBeOptimal, OverflowIsLoud}
 
 -- the printed tolls are allowed, and the printed walks are the travellers' reply to them, which earns exactly the lower
--- value; the upper value is the basic bound, and no tolls that keep the ceilings earn more; it says optimal exactly where
--- both are equal
+-- value; no tolls that keep the ceilings earn more than the upper value; it says optimal exactly where both are equal
 pub record IsReportOf (net : Network) (r : ReportValue) : Type 0 where
   pub allowed : AreAllowed net r.tolls
   pub reply : IsReplyTo net r.tolls r.paths r.lower
-  pub basic : IsBasicBound net r.upper
   pub bounded : IsUpperBound net r.upper.num r.upper.den
-  pub status : IsStatusOf r.lower r.upper r.status
+  pub status : (r.status ≡ Optimal) ↔ (r.lower ≡ r.upper)
 
--- it is the report of the zero choice at 64 bits: its tolls are the first of a search, the walks and the lower value are
--- those of the reply to them over useful covers, and no node is opened
-pub record IsFirstReport (net : Network) (r : ReportValue) : Type 0 where
-  pub covers : List CoverValue
-  pub are_useful : AreUsefulCovers net.arcs net.commodities covers
-  pub tolls : r.tolls ≡ start_tolls (limit_of 64) (path_model net covers)
-  pub paths : r.paths ≡ reply_lines (path_model net covers) (reply (path_model net covers) r.tolls)
-  pub lower : r.lower ≡ (reply (path_model net covers) r.tolls).revenue
-  pub opened : r.opened ≡ 0
+-- the report of an outcome: all but its cuts and its tree
+abbrev pub report_of : OutcomeValue → ReportValue
+report_of o = record { status = o.status; lower = o.lower; upper = o.upper; opened = o.opened; tolls = o.tolls; paths = o.paths }
+
+-- the outcome is grown best first within the budget, from the tolls of the zero choice and the basic bound on; optimal must
+-- come where the budget suffices and every inverse program is quiet; overflow comes only by choices that are not quiet
+pub record IsSearched (P : Problem) (budget : ℕ) (o : OutcomeValue) : Type 0 where
+  pub grown : IsGrownOutcome P budget o
+  pub best_first : IsOutcomeBestFirst P o
+  pub few_nodes : HasFewNodes (all_paths P.paths) o.entries
+  pub between : IsBetween P o
+  pub must_come : MustBeOptimal P budget o
+  pub loud : OverflowIsLoud P o

@@ -6,6 +6,8 @@ pub mod SpansText
 pub mod PathsText
 pub mod Listed
 pub mod Evaluated
+pub mod RuleWords
+pub mod Checked
 pub mod Answers
 pub mod Taken
 pub mod NotTaken

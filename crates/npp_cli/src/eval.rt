@@ -1,16 +1,16 @@
 //! The job `eval`: what given tolls earn, and the walks that travellers take under them.
-ghost use Rattle.std.specs.Prelude.{◌≡◌, IfOk, string_bytes};
+ghost use Rattle.std.specs.Prelude.{◌≡◌, IfOk};
 ghost use Rattle.npp_frac.specs.Wide.{value_of_wide};
 ghost use Rattle.npp_eval.specs.Evaluated.{evaluation_value};
 ghost use Rattle.npp_eval.specs.Text.{evaluation_text};
-ghost use Rattle.npp_cli.specs.Answer.{IsAnswer};
+ghost use Rattle.npp_cli.specs.Answer.{IsAnswer, answer_text};
 ghost use Rattle.npp_cli.specs.Evaluated.{AnswersEvalRefusal, AnswersTolls};
 ghost use Rattle.npp_cli.specs.Answers.{AnswersFile, AnswersWithTolls, tolls_limit};
 ghost use Rattle.npp_cli.specs.Runs.{HasAnswerCause};
 
 use crate::answers::{
-    Answer, faulty_line, no_free_path, not_taken, refused_tolls, too_many_labels, too_many_paths,
-    too_wide,
+    Answer, Output, faulty_line, no_free_path, not_taken, refused_tolls, too_many_labels,
+    too_many_paths, too_wide,
 };
 use crate::take::take_file;
 use npp_eval::{EvalRefusal, Evaluation, evaluate_text, evaluation_text};
@@ -31,7 +31,7 @@ pub fn eval_on_bytes<S: Shelf>(
     shelf: &mut S,
 ) -> Result<Answer, Memory>
     ensures held { S.held shelf.new ≡ S.held shelf.old }
-    ensures answer { IfOk result (λ answer. AnswersWithTolls (S.held shelf.old) tolls.now bytes.now answer.status (string_bytes answer.text)) }
+    ensures answer { IfOk result (λ answer. AnswersWithTolls (S.held shelf.old) tolls.now bytes.now answer.status (answer_text answer)) }
     ensures cause { IfOk result (λ answer. HasAnswerCause (S.faults shelf.old) (S.faults shelf.new) (S.misses shelf.old) (S.misses shelf.new) answer.status) }
 {
     match read(alloc, bytes) {
@@ -49,7 +49,7 @@ fn eval_on_instance<S: Shelf>(
     shelf: &mut S,
 ) -> Result<Answer, Memory>
     ensures held { S.held shelf.new ≡ S.held shelf.old }
-    ensures answer { IfOk result (λ answer. AnswersFile (AnswersTolls instance.now) tolls_limit (S.held shelf.old) tolls.now answer.status (string_bytes answer.text)) }
+    ensures answer { IfOk result (λ answer. AnswersFile (AnswersTolls instance.now) tolls_limit (S.held shelf.old) tolls.now answer.status (answer_text answer)) }
     ensures cause { IfOk result (λ answer. HasAnswerCause (S.faults shelf.old) (S.faults shelf.new) (S.misses shelf.old) (S.misses shelf.new) answer.status) }
 {
     match take_file(alloc, shelf, tolls, TOLLS_LIMIT) {
@@ -60,7 +60,7 @@ fn eval_on_instance<S: Shelf>(
 
 // The answer about the bytes of a tolls file.
 fn eval(alloc: Global, instance: &Instance, bytes: &[u8]) -> Result<Answer, Memory>
-    ensures { IfOk result (λ answer. AnswersTolls instance.now bytes.now answer.status (string_bytes answer.text)) }
+    ensures { IfOk result (λ answer. AnswersTolls instance.now bytes.now answer.status (answer_text answer)) }
 {
     match evaluate_text(alloc, instance, bytes) {
         Ok(evaluation) => replied(alloc, &evaluation),
@@ -73,12 +73,15 @@ fn replied(alloc: Global, evaluation: &Evaluation<Frac128>) -> Result<Answer, Me
     ensures { IfOk result (IsAnswer 0 (evaluation_text (evaluation_value value_of_wide evaluation.now))) }
 {
     let text = evaluation_text(alloc, evaluation)?;
-    Ok(Answer { status: 0, text })
+    Ok(Answer {
+        status: 0,
+        output: Output::Text(text),
+    })
 }
 
 // Why it is not said what tolls earn.
 fn not_replied(alloc: Global, refusal: EvalRefusal) -> Result<Answer, Memory>
-    ensures { IfOk result (λ answer. AnswersEvalRefusal refusal answer.status (string_bytes answer.text)) }
+    ensures { IfOk result (λ answer. AnswersEvalRefusal refusal answer.status (answer_text answer)) }
 {
     match refusal {
         EvalRefusal::Line(line) => refused_tolls(alloc, line),

@@ -1,11 +1,13 @@
 //! Generated instances: a main road of toll arcs beside a toll-free side road that is dearer, with ramps between them.
 ghost use Rattle.std.specs.Prelude.{◌≡◌, ◌+◌, ◌<◌, ◌≤◌, ◌++◌, ◌∷◌, [], ℕ, IfOk, OnOk, flat_map, map, string_bytes};
 ghost use Rattle.std.specs.Fmt.{decimal};
+ghost use Rattle.npp_reader.specs.Canonical.{canonical_text};
 ghost use Rattle.npp_reader.specs.Names.{texts};
+ghost use Rattle.npp_cli.specs.Answer.{answer_text};
 ghost use Rattle.npp_cli.specs.Answers.{AnswersNumber};
 ghost use Rattle.npp_cli.specs.Generated.{spread, first_numbers, generated, generated_names, generated_arcs, generated_pairs, main_node, side_node, main_arc, side_arcs, ramp_arcs, side_pair, both_ways};
 
-use crate::answers::Answer;
+use crate::answers::{Answer, Output};
 use npp_net::{Commodity, Instance, Memory, NetArc, NetRefusal, NodeId};
 use npp_reader::{Document, Names, print};
 use std::alloc::Global;
@@ -34,14 +36,25 @@ pub fn generate(alloc: Global, number: u32) -> Result<Document, Memory>
     }
 }
 
+/// The canonical text of the instance of a number.
+pub fn generated_text(alloc: Global, number: u32) -> Result<String, Memory>
+    requires { number ≤ 999999 }
+    ensures { IfOk result (λ text. string_bytes text ≡ canonical_text (generated number)) }
+{
+    let document = generate(alloc, number)?;
+    print(alloc, &document)
+}
+
 /// The job `gen`: the canonical text of the instance of a number.
 pub fn answer_on_number(alloc: Global, number: u32) -> Result<Answer, Memory>
     requires { number ≤ 999999 }
-    ensures { IfOk result (λ answer. AnswersNumber number answer.status (string_bytes answer.text)) }
+    ensures { IfOk result (λ answer. AnswersNumber number answer.status (answer_text answer)) }
 {
-    let document = generate(alloc, number)?;
-    let text = print(alloc, &document)?;
-    Ok(Answer { status: 0, text })
+    let text = generated_text(alloc, number)?;
+    Ok(Answer {
+        status: 0,
+        output: Output::Text(text),
+    })
 }
 
 // A number below `most`, which the instance's number and the place decide.

@@ -2,6 +2,7 @@
 #![tactic(auto)]
 
 mod answers;
+mod check;
 mod eval;
 mod generator;
 mod paths;

@@ -3,12 +3,12 @@ ghost use Rattle.std.specs.Prelude.{◌≡◌, ◌++◌, ◌⊎◌, IfOk, OnOk, 
 ghost use Rattle.npp_net.specs.TollSets.{tolls_of};
 ghost use Rattle.npp_bounds.specs.Spans.{AreSpans};
 ghost use Rattle.npp_cover.specs.PathValue.{path_value};
-ghost use Rattle.npp_cli.specs.Answer.{IsAnswer};
+ghost use Rattle.npp_cli.specs.Answer.{IsAnswer, answer_text};
 ghost use Rattle.npp_cli.specs.Listed.{IsListed, IsOverLimit};
 ghost use Rattle.npp_report.specs.Lines.{number_fields, numbered_lines};
 ghost use Rattle.npp_cli.specs.PathsText.{paths_text, commodity_lines, useful_line};
 
-use crate::answers::{Answer, over_limit};
+use crate::answers::{Answer, Output, over_limit};
 use npp_cover::{Cover, UsefulPath};
 use npp_labels::useful_all;
 use npp_net::{Instance, Memory, Span, TollSet};
@@ -21,8 +21,8 @@ use std::fmt::Write;
 /// The spans are those of the instance, one for each commodity in order.
 pub fn paths(alloc: Global, instance: &Instance, spans: &[Span]) -> Result<Answer, Memory>
     requires { AreSpans instance.now.arcs instance.now.commodities spans.now }
-    ensures { IfOk result (λ answer. IsListed instance.now answer.status (string_bytes answer.text)
-        ⊎ IsOverLimit instance.now answer.status (string_bytes answer.text)) }
+    ensures { IfOk result (λ answer. IsListed instance.now answer.status (answer_text answer)
+        ⊎ IsOverLimit instance.now answer.status (answer_text answer)) }
 {
     match useful_all(alloc, instance, spans) {
         Ok(covers) => listed(alloc, &covers),
@@ -36,7 +36,10 @@ fn listed(alloc: Global, covers: &[Cover]) -> Result<Answer, Memory>
 {
     let mut text = String::new(alloc);
     write_covers(&mut text, covers)?;
-    Ok(Answer { status: 0, text })
+    Ok(Answer {
+        status: 0,
+        output: Output::Text(text),
+    })
 }
 
 // The lines of each commodity.

@@ -1,5 +1,5 @@
 //! The top call: the words are read, the job is done, and its text is written.
-ghost use Rattle.std.specs.Prelude.{◌≡◌, ℕ, List, None, Some, IfOk, string_bytes};
+ghost use Rattle.std.specs.Prelude.{◌≡◌, ◌≤◌, ℕ, List, None, Some, IfOk};
 ghost use Rattle.npp_outside.specs.Causes.{Rose};
 ghost use Rattle.npp_outside.specs.Shelf.{Files, file_at};
 ghost use Rattle.npp_net.specs.Network.{Network};
@@ -7,14 +7,17 @@ ghost use Rattle.npp_bounds.specs.Spans.{AreSpans};
 ghost use Rattle.npp_reader.specs.Canonical.{canonical_text};
 ghost use Rattle.npp_cli.specs.Generated.{generated};
 ghost use Rattle.npp_cli.specs.Texts.{usage_text};
-ghost use Rattle.npp_cli.specs.Words.{texts, job_of, generate};
-ghost use Rattle.npp_cli.specs.Answers.{Answers, AnswersFile, AnswersInstance, AnswersOf, AnswersWithTolls, IsDone, instance_limit};
-ghost use Rattle.npp_cli.specs.Claims.{IsGiven, IsAsked, IsGivenTolls, IsAskedTolls, NothingFailed, WasWritten, Prints, PrintsAbout, PrintsAboutTwo, PrintsDone, PrintsEvaluation};
+ghost use Rattle.npp_words.specs.Given.{texts};
+ghost use Rattle.npp_cli.specs.Words.{job_of, generate, demonstrate};
+ghost use Rattle.npp_cli.specs.Answer.{answer_text};
+ghost use Rattle.npp_cli.specs.Answers.{Answers, AnswersDemonstration, AnswersFile, AnswersInstance, AnswersOf, AnswersWithCertificate, AnswersWithTolls, IsDone, instance_limit};
+ghost use Rattle.npp_cli.specs.Claims.{IsGiven, IsAsked, IsGivenTolls, IsAskedTolls, IsGivenCertificate, IsAskedCertificate, NothingFailed, WasWritten, Prints, PrintsAbout, PrintsAboutTwo, PrintsOnCertificate, PrintsDemonstration, PrintsDone, PrintsEvaluation, PrintsVerdict};
 ghost use Rattle.npp_cli.specs.Runs.{Runs, HasAnswerCause};
 
-use crate::answers::{Answer, faulty_line, no_free_path, not_taken, usage};
+use crate::answers::{Answer, faulty_line, no_free_path, not_taken, usage, write_output};
+use crate::check::check_on_bytes;
 use crate::eval::eval_on_bytes;
-use crate::generator::answer_on_number;
+use crate::generator::{answer_on_number, generated_text};
 use crate::paths::paths;
 use crate::solve::solve;
 use crate::spans::bounds;
@@ -22,8 +25,8 @@ use crate::take::take_file;
 use crate::words::{Command, FileJob, command_of};
 use npp_bounds::{BoundsRefusal, free_and_zero};
 use npp_net::{Instance, Memory, Span};
-use npp_outside::{Shelf, Sink, SinkAnswer, write_whole};
-use npp_reader::{ReadRefusal, read};
+use npp_outside::{Shelf, Sink, SinkAnswer};
+use npp_reader::{Document, ReadRefusal, read};
 use std::alloc::Global;
 
 /// How many bytes an instance file may have.
@@ -47,13 +50,21 @@ pub fn run<S: Shelf, O: Sink>(alloc: Global, words: &[String], shelf: &mut S, ou
     ensures evaluation { (net : Network) (tolls : List ℕ) → IsGivenTolls (texts words.now) (S.held shelf.old) net tolls
         → NothingFailed result → PrintsEvaluation net tolls (O.written out.old) (O.written out.new) result }
 
+    // A certificate is accepted exactly where its verdict is a pair, whoever wrote it, and then it proves both values.
+    ensures certificate { (net : Network) (certificate : List ℕ) → IsGivenCertificate (texts words.now) (S.held shelf.old) net certificate
+        → NothingFailed result → PrintsVerdict net certificate (O.written out.old) (O.written out.new) result }
+
     // Each answer comes exactly by its cause, and its text is all that is written.
     ensures on_file { (job : FileJob) (name : List ℕ) (files : Files) → IsAsked job name files (texts words.now) (S.held shelf.old)
         → NothingFailed result → PrintsAbout job name (file_at files name) (O.written out.old) (O.written out.new) result }
     ensures on_two_files { (name tolls : List ℕ) (files : Files) → IsAskedTolls name tolls files (texts words.now) (S.held shelf.old)
         → NothingFailed result → PrintsAboutTwo name tolls (file_at files name) (file_at files tolls) (O.written out.old) (O.written out.new) result }
+    ensures on_certificate { (name certificate : List ℕ) (files : Files) → IsAskedCertificate name certificate files (texts words.now) (S.held shelf.old)
+        → NothingFailed result → PrintsOnCertificate name certificate (file_at files name) (file_at files certificate) (O.written out.old) (O.written out.new) result }
     ensures generated { (number : ℕ) → job_of (texts words.now) ≡ Some (generate number)
         → WasWritten result → Prints (canonical_text (generated number)) 0 (O.written out.old) (O.written out.new) result }
+    ensures demonstration { (number budget : ℕ) → job_of (texts words.now) ≡ Some (demonstrate number budget)
+        → WasWritten result → PrintsDemonstration number budget (O.written out.old) (O.written out.new) result }
     ensures usage { job_of (texts words.now) ≡ None
         → WasWritten result → Prints usage_text 2 (O.written out.old) (O.written out.new) result }
     ensures usage_only { result ≡ 2 → job_of (texts words.now) ≡ None }
@@ -62,7 +73,7 @@ pub fn run<S: Shelf, O: Sink>(alloc: Global, words: &[String], shelf: &mut S, ou
     ensures answer { Runs (texts words.now) (S.held shelf.old) (O.written out.old) (O.written out.new) result }
 {
     match answer_to(alloc, words, shelf) {
-        Ok(answer) => match write_whole(out, answer.text.as_bytes()) {
+        Ok(answer) => match write_output(alloc, &answer.output, out) {
             Ok(()) => answer.status,
             Err(SinkAnswer::Failed) => 6,
             Err(SinkAnswer::Memory) => 7,
@@ -74,15 +85,32 @@ pub fn run<S: Shelf, O: Sink>(alloc: Global, words: &[String], shelf: &mut S, ou
 // The answer to the words.
 fn answer_to<S: Shelf>(alloc: Global, words: &[String], shelf: &mut S) -> Result<Answer, Memory>
     ensures held { S.held shelf.new ≡ S.held shelf.old }
-    ensures answer { IfOk result (λ answer. Answers (texts words.now) (S.held shelf.old) answer.status (string_bytes answer.text)) }
+    ensures answer { IfOk result (λ answer. Answers (texts words.now) (S.held shelf.old) answer.status (answer_text answer)) }
     ensures cause { IfOk result (λ answer. HasAnswerCause (S.faults shelf.old) (S.faults shelf.new) (S.misses shelf.old) (S.misses shelf.new) answer.status) }
 {
-    match command_of(words) {
+    match command_of(alloc, words)? {
         None => usage(alloc),
         Some(Command::OnFile(job, file)) => answer_on_file(alloc, job, file, shelf),
         Some(Command::Evaluate(file, tolls)) => answer_on_two_files(alloc, file, tolls, shelf),
+        Some(Command::Check(file, certificate)) => {
+            answer_on_certificate(alloc, file, certificate, shelf)
+        }
         Some(Command::Generate(number)) => answer_on_number(alloc, number),
+        Some(Command::Demonstrate(number, budget)) => demonstrate(alloc, number, budget),
     }
+}
+
+// What `solve --brief` answers about the text of the generated instance.
+fn demonstrate(alloc: Global, number: u32, budget: u32) -> Result<Answer, Memory>
+    requires { number ≤ 999999 }
+    ensures { IfOk result (λ answer. AnswersDemonstration number budget answer.status (answer_text answer)) }
+{
+    let text = generated_text(alloc, number)?;
+    let job = FileJob::Solve {
+        budget,
+        brief: true,
+    };
+    answer_on_bytes(alloc, job, text.as_bytes())
 }
 
 // The answer to a job for a file.
@@ -93,7 +121,7 @@ fn answer_on_file<S: Shelf>(
     shelf: &mut S,
 ) -> Result<Answer, Memory>
     ensures held { S.held shelf.new ≡ S.held shelf.old }
-    ensures answer { IfOk result (λ answer. AnswersFile (AnswersOf job) instance_limit (S.held shelf.old) file.now answer.status (string_bytes answer.text)) }
+    ensures answer { IfOk result (λ answer. AnswersFile (AnswersOf job) instance_limit (S.held shelf.old) file.now answer.status (answer_text answer)) }
     ensures cause { IfOk result (λ answer. HasAnswerCause (S.faults shelf.old) (S.faults shelf.new) (S.misses shelf.old) (S.misses shelf.new) answer.status) }
 {
     match take_file(alloc, shelf, file, INSTANCE_LIMIT) {
@@ -110,7 +138,7 @@ fn answer_on_two_files<S: Shelf>(
     shelf: &mut S,
 ) -> Result<Answer, Memory>
     ensures held { S.held shelf.new ≡ S.held shelf.old }
-    ensures answer { IfOk result (λ answer. AnswersFile (AnswersWithTolls (S.held shelf.old) tolls.now) instance_limit (S.held shelf.old) file.now answer.status (string_bytes answer.text)) }
+    ensures answer { IfOk result (λ answer. AnswersFile (AnswersWithTolls (S.held shelf.old) tolls.now) instance_limit (S.held shelf.old) file.now answer.status (answer_text answer)) }
     ensures cause { IfOk result (λ answer. HasAnswerCause (S.faults shelf.old) (S.faults shelf.new) (S.misses shelf.old) (S.misses shelf.new) answer.status) }
 {
     match take_file(alloc, shelf, file, INSTANCE_LIMIT) {
@@ -119,22 +147,47 @@ fn answer_on_two_files<S: Shelf>(
     }
 }
 
+// The answer about the certificate in one file for the instance of another.
+fn answer_on_certificate<S: Shelf>(
+    alloc: Global,
+    file: &str,
+    certificate: &str,
+    shelf: &mut S,
+) -> Result<Answer, Memory>
+    ensures held { S.held shelf.new ≡ S.held shelf.old }
+    ensures answer { IfOk result (λ answer. AnswersFile (AnswersWithCertificate (S.held shelf.old) certificate.now) instance_limit (S.held shelf.old) file.now answer.status (answer_text answer)) }
+    ensures cause { IfOk result (λ answer. HasAnswerCause (S.faults shelf.old) (S.faults shelf.new) (S.misses shelf.old) (S.misses shelf.new) answer.status) }
+{
+    match take_file(alloc, shelf, file, INSTANCE_LIMIT) {
+        Ok(bytes) => check_on_bytes(alloc, &bytes, certificate, shelf),
+        Err(refusal) => not_taken(alloc, file, refusal),
+    }
+}
+
 // The answer to a job for the bytes of a file.
 fn answer_on_bytes(alloc: Global, job: FileJob, bytes: &[u8]) -> Result<Answer, Memory>
-    ensures { IfOk result (λ answer. AnswersOf job bytes.now answer.status (string_bytes answer.text)) }
+    ensures { IfOk result (λ answer. AnswersOf job bytes.now answer.status (answer_text answer)) }
 {
     match read(alloc, bytes) {
-        Ok(document) => answer_on_instance(alloc, job, &document.instance),
+        Ok(document) => answer_on_document(alloc, job, document),
         Err(ReadRefusal::Line { line, kind }) => faulty_line(alloc, line, kind.word()),
         Err(ReadRefusal::Memory) => Err(Memory),
     }
 }
 
-// The answer to a job for an instance.
-fn answer_on_instance(alloc: Global, job: FileJob, instance: &Instance) -> Result<Answer, Memory>
-    ensures { IfOk result (λ answer. AnswersInstance job instance.now answer.status (string_bytes answer.text)) }
+// The answer to a job for what a text declares.
+fn answer_on_document(alloc: Global, job: FileJob, document: Document) -> Result<Answer, Memory>
+    ensures { IfOk result (λ answer. AnswersInstance job document.instance answer.status (answer_text answer)) }
 {
-    match free_and_zero(alloc, instance) {
+    let Document { names: _, instance } = document;
+    answer_on_instance(alloc, job, instance)
+}
+
+// The answer to a job for an instance.
+fn answer_on_instance(alloc: Global, job: FileJob, instance: Instance) -> Result<Answer, Memory>
+    ensures { IfOk result (λ answer. AnswersInstance job instance answer.status (answer_text answer)) }
+{
+    match free_and_zero(alloc, &instance) {
         Ok(spans) => done(alloc, job, instance, &spans),
         Err(BoundsRefusal::NoFreePath(k)) => no_free_path(alloc, k),
         Err(BoundsRefusal::Memory) => Err(Memory),
@@ -142,13 +195,13 @@ fn answer_on_instance(alloc: Global, job: FileJob, instance: &Instance) -> Resul
 }
 
 // What the job says of the instance, whose spans these are.
-fn done(alloc: Global, job: FileJob, instance: &Instance, spans: &[Span]) -> Result<Answer, Memory>
-    requires { AreSpans instance.now.arcs instance.now.commodities spans.now }
-    ensures { IfOk result (λ answer. IsDone job instance.now answer.status (string_bytes answer.text)) }
+fn done(alloc: Global, job: FileJob, instance: Instance, spans: &[Span]) -> Result<Answer, Memory>
+    requires { AreSpans instance.arcs instance.commodities spans.now }
+    ensures { IfOk result (λ answer. IsDone job instance answer.status (answer_text answer)) }
 {
     match job {
-        FileJob::Solve => solve(alloc, instance, spans),
-        FileJob::Bounds => bounds(alloc, instance, spans),
-        FileJob::Paths => paths(alloc, instance, spans),
+        FileJob::Solve { budget, brief } => solve(alloc, instance, spans, budget, brief),
+        FileJob::Bounds => bounds(alloc, &instance, spans),
+        FileJob::Paths => paths(alloc, &instance, spans),
     }
 }

@@ -1,108 +1,85 @@
-//! The job `solve`: the best tolls of the zero choice with the travellers' reply to them, and the basic bound.
-ghost use Rattle.std.specs.Prelude.{◌≡◌, ◌≢◌, ◌⊎◌, ◌≤◌, IfOk, MatchBool, string_bytes};
-ghost use Rattle.npp_frac.specs.Wide.{value_of_wide};
-ghost use Rattle.npp_frac.specs.Narrow.{value_of_64};
+//! The job `solve`: the best tolls that a search finds with the travellers' reply to them, and the bound that it proves.
+ghost use Rattle.std.specs.Prelude.{◌≡◌, ◌⊎◌, ◌≤◌, IfOk};
 ghost use Rattle.npp_bounds.specs.Spans.{AreSpans};
 ghost use Rattle.npp_labels.specs.Covers.{AreUsefulCovers, PassesNoLimit, path_total};
-ghost use Rattle.npp_report.specs.Report.{report_value};
+ghost use Rattle.npp_cli.specs.Answer.{answer_text};
 ghost use Rattle.npp_cli.specs.Answers.{IsSolved, exit_status};
-ghost use Rattle.npp_cli.specs.Headline.{IsReportOf, IsFirstReport, IsStatusOf};
 ghost use Rattle.npp_cli.specs.Listed.{IsOverLimit};
 
-use crate::answers::{Answer, over_limit};
+use crate::answers::{Answer, Output, Solution, over_limit};
+use npp_accept::{outcomes_are_accepted, outcomes_have_numbers};
 use npp_cover::Cover;
-use npp_frac::{Exact, Frac64, Frac128};
+use npp_frac::Frac64;
 use npp_labels::useful_all;
-use npp_net::{Instance, Listed, Memory, Span};
-use npp_report::{Report, report_text};
-use npp_start::{Start, find_start, upper_value, walks_of_reply};
+use npp_net::{Instance, Memory, Span};
+use npp_search::{BestBound, search};
 use npp_tree::Status;
 use std::alloc::Global;
-use std::cmp::Ordering;
 
-/// The report of an instance, or the first limit that is passed.
+/// How many rounds of cuts a node may have.
+const CUT_ROUNDS: u32 = 0;
+
+/// What a search of so many nodes finds of an instance, or the first limit that is passed.
 ///
-/// The spans are those of the instance, one for each commodity in order.
-pub fn solve(alloc: Global, instance: &Instance, spans: &[Span]) -> Result<Answer, Memory>
-    requires { AreSpans instance.now.arcs instance.now.commodities spans.now }
-    ensures { IfOk result (λ answer. IsSolved instance.now answer.status (string_bytes answer.text)
-        ⊎ IsOverLimit instance.now answer.status (string_bytes answer.text)) }
+/// The spans are those of the instance, one for each commodity in order. Where `brief` is true the report alone is
+/// answered, and else the whole certificate.
+pub fn solve(
+    alloc: Global,
+    instance: Instance,
+    spans: &[Span],
+    budget: u32,
+    brief: bool,
+) -> Result<Answer, Memory>
+    requires { AreSpans instance.arcs instance.commodities spans.now }
+    ensures { IfOk result (λ answer. IsSolved budget brief instance answer.status (answer_text answer)
+        ⊎ IsOverLimit instance answer.status (answer_text answer)) }
 {
-    match useful_all(alloc, instance, spans) {
-        Ok(covers) => solved(alloc, instance, spans, &covers),
+    match useful_all(alloc, &instance, spans) {
+        Ok(covers) => solved(alloc, instance, covers, budget, brief),
         Err(refusal) => over_limit(alloc, refusal),
     }
 }
 
-// The text and the status of the report.
+// What a search over the useful covers finds, with its status.
 fn solved(
     alloc: Global,
-    instance: &Instance,
-    spans: &[Span],
-    covers: &[Cover],
+    instance: Instance,
+    covers: Vec<Cover>,
+    budget: u32,
+    brief: bool,
 ) -> Result<Answer, Memory>
-    requires spans { AreSpans instance.now.arcs instance.now.commodities spans.now }
-    requires covers { AreUsefulCovers instance.now.arcs instance.now.commodities covers.now }
-    requires few { path_total covers.now ≤ 2000 }
-    requires kept { PassesNoLimit instance.now.arcs instance.now.commodities }
-    ensures { IfOk result (λ answer. IsSolved instance.now answer.status (string_bytes answer.text)) }
+    requires covers { AreUsefulCovers instance.arcs instance.commodities covers.items }
+    requires few { path_total covers.items ≤ 2000 }
+    requires kept { PassesNoLimit instance.arcs instance.commodities }
+    ensures { IfOk result (λ answer. IsSolved budget brief instance answer.status (answer_text answer)) }
 {
-    let report = first_report(alloc, instance, spans, covers)?;
-    let text = report_text(alloc, instance, &report)?;
-    let status = exit_status(report.status);
-    Ok(Answer { status, text })
-}
-
-// The report of the zero choice.
-fn first_report(
-    alloc: Global,
-    instance: &Instance,
-    spans: &[Span],
-    covers: &[Cover],
-) -> Result<Report<Frac64>, Memory>
-    requires spans { AreSpans instance.now.arcs instance.now.commodities spans.now }
-    requires covers { AreUsefulCovers instance.now.arcs instance.now.commodities covers.now }
-    requires few { path_total covers.now ≤ 2000 }
-    ensures report { IfOk result (λ report. IsReportOf instance.now (report_value value_of_64 report)) }
-    ensures first { IfOk result (λ report. IsFirstReport instance.now (report_value value_of_64 report)) }
-{
-    let Start { tolls, response } = find_start::<Frac64>(alloc, instance, covers)?;
-    let paths = walks_of_reply(alloc, instance, covers, &response)?;
-    let lower = response.revenue.widen();
-    let upper = upper_value(instance, spans);
-    Ok(Report {
-        status: status_of(lower, upper),
-        lower,
-        upper,
-        opened: 0,
-        tolls,
-        paths: Listed::of(paths),
+    let mut picker = BestBound;
+    let outcome = search::<Frac64, BestBound>(
+        alloc,
+        &instance,
+        &covers,
+        budget,
+        CUT_ROUNDS,
+        &mut picker,
+    )?;
+    // That its certificate is accepted follows from these laws, and from the limits that each instance keeps.
+    outcomes_are_accepted();
+    outcomes_have_numbers::<Frac64>();
+    let _nodes = instance.nodes();
+    let status = exit_status(outcome.status);
+    let solution = Solution {
+        instance,
+        covers,
+        outcome,
+        brief,
+    };
+    Ok(Answer {
+        status,
+        output: Output::Solved(solution),
     })
 }
 
-// Optimal exactly where the two values are equal.
-fn status_of(lower: Frac128, upper: Frac128) -> Status
-    ensures { IsStatusOf (value_of_wide lower) (value_of_wide upper) result }
-{
-    if are_equal(lower, upper) {
-        Status::Optimal
-    } else {
-        Status::Budget
-    }
-}
-
-// Whether two values are equal.
-fn are_equal(lower: Frac128, upper: Frac128) -> bool
-    ensures { MatchBool result (value_of_wide lower ≡ value_of_wide upper) (value_of_wide lower ≢ value_of_wide upper) }
-{
-    match lower.cmp(upper) {
-        Ordering::Less => false,
-        Ordering::Equal => true,
-        Ordering::Greater => false,
-    }
-}
-
-// The status of the program for that of a report.
+// The status of the program for that of a search.
 fn exit_status(status: Status) -> u8
     ensures { result ≡ exit_status status }
 {

@@ -1,14 +1,24 @@
-//! The words of the command line, and the job that they ask for.
-ghost use Rattle.std.specs.Prelude.{◌≡◌, ◌≤◌, ℕ, MatchOption, IfSome, None, Some};
+//! The job that the words of the command line ask for.
+ghost use Rattle.std.specs.Prelude.{◌≡◌, ◌≤◌, ℕ, MatchOption, IfOk, IfSome, None, Some};
 ghost use Rattle.std.specs.List.{list_all};
 ghost use Rattle.std.specs.Char.{is_ascii_digit};
-ghost use Rattle.npp_cli.specs.Words.{job_of, job_for_one, job_for_two, job_meant, is_option, number_of, texts, IsWithinDigits};
+ghost use Rattle.npp_words.specs.Given.{given_value, texts};
+ghost use Rattle.npp_cli.specs.Words.{job_of, job_in, job_for_number, job_for_one, job_for_two, job_meant, number_of, IsWithinDigits};
+
+use npp_net::Memory;
+use npp_words::{Given, WordsRefusal, given_words};
+use std::alloc::Global;
 
 /// What is asked of the instance in a file.
 #[derive(Clone, Copy, Debug, PartialEq, Eq)]
 pub enum FileJob {
     /// Tolls, a cheapest walk for each commodity, and what bounds the revenue from both sides.
-    Solve,
+    Solve {
+        /// How many nodes the search may open.
+        budget: u32,
+        /// Whether the report alone is wanted, and not the whole certificate.
+        brief: bool,
+    },
     /// The two least costs of each commodity, and the basic bound.
     Bounds,
     /// The useful paths of each commodity.
@@ -22,40 +32,53 @@ pub enum Command<'w> {
     OnFile(FileJob, &'w str),
     /// What the tolls of the second file earn in the instance of the first.
     Evaluate(&'w str, &'w str),
+    /// Whether the second file is a certificate for the instance of the first, and what it proves.
+    Check(&'w str, &'w str),
     /// The generated instance of this number.
     Generate(u32),
+    /// What a search of so many nodes finds of the generated instance of this number, which stands first.
+    Demonstrate(u32, u32),
 }
 
 /// The job that the words ask for, the program's own name being the first of them. None where they ask for none.
-pub fn command_of(words: &[String]) -> Option<Command<'_>>
-    ensures job { MatchOption
-        result
+pub fn command_of<'w>(alloc: Global, words: &'w [String]) -> Result<Option<Command<'w>>, Memory>
+    ensures job { IfOk result (λ found. MatchOption
+        found
         (job_of (texts words.now) ≡ None)
-        (λ command. job_of (texts words.now) ≡ Some (job_meant command)) }
-    ensures within { IfSome result IsWithinDigits }
+        (λ command. job_of (texts words.now) ≡ Some (job_meant command))) }
+    ensures within { IfOk result (λ found. IfSome found IsWithinDigits) }
 {
-    if words.len() == 3 {
-        return command_of_one(words[1].as_str(), words[2].as_str());
+    match given_words(alloc, words) {
+        Ok(given) => Ok(command_in(given)),
+        Err(WordsRefusal::Usage) => Ok(None),
+        Err(WordsRefusal::Memory) => Err(Memory),
     }
-    if words.len() == 4 {
-        return command_of_two(words[1].as_str(), words[2].as_str(), words[3].as_str());
-    }
-    None
 }
 
-// The job of this name for one word.
-fn command_of_one<'w>(job: &str, first: &'w str) -> Option<Command<'w>>
+// The job that what is given asks for.
+fn command_in<'w>(given: Given<'w>) -> Option<Command<'w>>
     ensures job { MatchOption
         result
-        (job_for_one job.now first.now ≡ None)
-        (λ command. job_for_one job.now first.now ≡ Some (job_meant command)) }
+        (job_in (given_value given.entry) ≡ None)
+        (λ command. job_in (given_value given.entry) ≡ Some (job_meant command)) }
     ensures within { IfSome result IsWithinDigits }
 {
-    if is_option(first) {
-        return None;
+    match given.second {
+        None => command_for_one(given.budget, given.brief, given.job, given.first),
+        Some(second) => command_for_two(given.job, given.first, second),
     }
+}
+
+// The job of this name for one further word.
+fn command_for_one<'w>(budget: u32, brief: bool, job: &str, first: &'w str) -> Option<Command<'w>>
+    ensures job { MatchOption
+        result
+        (job_for_one budget brief job.now first.now ≡ None)
+        (λ command. job_for_one budget brief job.now first.now ≡ Some (job_meant command)) }
+    ensures within { IfSome result IsWithinDigits }
+{
     if job == "solve" {
-        return Some(Command::OnFile(FileJob::Solve, first));
+        return Some(Command::OnFile(FileJob::Solve { budget, brief }, first));
     }
     if job == "bounds" {
         return Some(Command::OnFile(FileJob::Bounds, first));
@@ -63,37 +86,45 @@ fn command_of_one<'w>(job: &str, first: &'w str) -> Option<Command<'w>>
     if job == "paths" {
         return Some(Command::OnFile(FileJob::Paths, first));
     }
+    match number_of(first) {
+        Some(number) => command_for_number(budget, job, number),
+        None => None,
+    }
+}
+
+// The job of this name that takes a number.
+fn command_for_number<'w>(budget: u32, job: &str, number: u32) -> Option<Command<'w>>
+    requires { number ≤ 999999 }
+    ensures job { MatchOption
+        result
+        (job_for_number budget job.now number ≡ None)
+        (λ command. job_for_number budget job.now number ≡ Some (job_meant command)) }
+    ensures within { IfSome result IsWithinDigits }
+{
     if job == "gen" {
-        return match number_of(first) {
-            Some(number) => Some(Command::Generate(number)),
-            None => None,
-        };
+        return Some(Command::Generate(number));
+    }
+    if job == "demo" {
+        return Some(Command::Demonstrate(number, budget));
     }
     None
 }
 
-// The job of this name for two words.
-fn command_of_two<'w>(job: &str, first: &'w str, second: &'w str) -> Option<Command<'w>>
+// The job of this name for two further words.
+fn command_for_two<'w>(job: &str, first: &'w str, second: &'w str) -> Option<Command<'w>>
     ensures job { MatchOption
         result
         (job_for_two job.now first.now second.now ≡ None)
         (λ command. job_for_two job.now first.now second.now ≡ Some (job_meant command)) }
     ensures within { IfSome result IsWithinDigits }
 {
-    if is_option(first) || is_option(second) {
-        return None;
-    }
     if job == "eval" {
         return Some(Command::Evaluate(first, second));
     }
+    if job == "check" {
+        return Some(Command::Check(first, second));
+    }
     None
-}
-
-// Whether a word begins with a dash.
-fn is_option(word: &str) -> bool
-    ensures { result ≡ is_option word.now }
-{
-    word.as_bytes().starts_with(b"-")
 }
 
 // The number of one to six decimal digits.

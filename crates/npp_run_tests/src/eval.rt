@@ -1,8 +1,8 @@
 //! Runs of `eval`, on an instance and a tolls text.
-ghost use Rattle.std.specs.Prelude.{None};
 
+use crate::fixtures::{RING, THREE_PAIRS, TwoFiles, USAGE, chain, two_files};
 use npp_cli::run;
-use npp_outside::{Shelf, ShelfAnswer, SureSink};
+use npp_outside::SureSink;
 use std::alloc::Global;
 use std::fmt::Write;
 use std::process::Abort;
@@ -10,65 +10,11 @@ use std::test::Fail;
 
 const TWO_TOLLS: &str = "npp 1\nnode a\nnode b\nfree a b 10\ntoll a b 2\ntoll a b 4\npair a b 1\n";
 
-const THREE_PAIRS: &str =
-    "npp 1\nnode a\nnode b\nnode p\nnode q\nnode r\ntoll a b 2\nfree p a 0\nfree p b 10\nfree q a 0\nfree q b 8\nfree r a 0\nfree r b 5\npair p b 1\npair q b 1\npair r b 3\n";
-
-const RING: &str =
-    "npp 1\nnode x\nnode y\nnode z\ntoll x y 0\ntoll y z 0\ntoll z x 0\nfree x z 1\nfree y x 1\nfree z y 1\npair x z 1\npair y x 1\npair z y 1\n";
-
 const TOLLS_ONLY: &str = "npp 1\nnode a\nnode b\ntoll a b 1\npair a b 1\n";
 
-const USAGE: &str =
-    "usage: npp solve FILE [--budget N] [--cuts N] [--numbers W] [--brief]\n       npp check FILE CERTIFICATE\n       npp bounds FILE\n       npp paths FILE\n       npp eval FILE TOLLS\n       npp gen NUMBER\n       npp demo NUMBER [--budget N] [--cuts N] [--numbers W]\n";
-
-// Holds an instance as `file` and a tolls text as `tolls`, gives one byte a call, and fails at the tolls where it is said to.
-#[derive(Drop)]
-struct TwoFiles<'t> {
-    instance: &'t str,
-    tolls: &'t str,
-    fails: bool,
-    faults: u64,
-    misses: u64,
-}
-
-impl<'t> Shelf for TwoFiles<'t> {
-    ghost held = { λ _. None };
-
-    ghost faults = { λ shelf. shelf.faults };
-
-    ghost misses = { λ shelf. shelf.misses };
-
-    fn piece(&mut self, name: &str, at: u64, into: &mut [u8]) -> Result<usize, ShelfAnswer> {
-        if name == "tolls" && self.fails {
-            self.faults = self.faults.saturating_add(1);
-            return Err(ShelfAnswer::Failed);
-        }
-        if name != "file" && name != "tolls" {
-            self.misses = self.misses.saturating_add(1);
-            return Err(ShelfAnswer::Missing);
-        }
-        let text = if name == "file" {
-            self.instance
-        } else {
-            self.tolls
-        };
-        let bytes = text.as_bytes();
-        if at >= bytes.len() as u64 || into.is_empty() {
-            return Ok(0);
-        }
-        into[0] = bytes[at as usize];
-        Ok(1)
-    }
-}
-
-fn two_files<'t>(instance: &'t str, tolls: &'t str) -> TwoFiles<'t> {
-    TwoFiles {
-        instance,
-        tolls,
-        fails: false,
-        faults: 0,
-        misses: 0,
-    }
+// An instance as `file`, and a tolls text as `tolls`.
+fn with_tolls<'t>(instance: &'t str, tolls: &'t str) -> TwoFiles<'t> {
+    two_files(instance, "tolls", tolls.as_bytes())
 }
 
 // A run of these words, after the program's name, over these files: its status and what is written are these.
@@ -105,7 +51,7 @@ fn expect(
         rt,
         alloc,
         &words,
-        two_files(instance, tolls),
+        with_tolls(instance, tolls),
         status,
         written,
     )
@@ -297,20 +243,6 @@ fn numbers_that_do_not_fit(rt: HostRuntime) -> Result<(), Fail> {
     Ok(())
 }
 
-// So many links in a row, each a toll-free arc of cost 1 beside a toll arc of cost 0.
-fn chain(alloc: Global, links: u32) -> Result<String, Fail> {
-    let mut text = String::from_str(alloc, "npp 1\nnode v0\n")?;
-    for i in 0..links {
-        let next = i + 1;
-        writeln!(
-            text,
-            "node v{next}\nfree v{i} v{next} 1\ntoll v{i} v{next} 0"
-        )?;
-    }
-    writeln!(text, "pair v0 v{links} 1")?;
-    Ok(text)
-}
-
 // A tolls text in which each of so many toll arcs has this toll.
 fn equal_tolls(alloc: Global, count: u32, toll: &str) -> Result<String, Fail> {
     let mut text = String::from_str(alloc, "npp-tolls 1\n")?;
@@ -402,7 +334,7 @@ fn order_of_refusals(rt: HostRuntime) -> Result<(), Fail> {
     ];
     for (job, first, second, instance, tolls, status, written) in rows {
         let words = [job, first, second];
-        let files = two_files(instance, tolls);
+        let files = with_tolls(instance, tolls);
         expect_words(&rt, rt.alloc(), &words, files, status, written)?;
     }
     Ok(())
@@ -412,14 +344,14 @@ fn order_of_refusals(rt: HostRuntime) -> Result<(), Fail> {
 #[test]
 fn too_few_and_too_many_words(rt: HostRuntime) -> Result<(), Fail> {
     let few = ["eval", "file"];
-    expect_words(&rt, rt.alloc(), &few, two_files(TOLLS_ONLY, ""), 2, USAGE)?;
+    expect_words(&rt, rt.alloc(), &few, with_tolls(TOLLS_ONLY, ""), 2, USAGE)?;
     let many = ["eval", "file", "tolls", "tolls"];
-    expect_words(&rt, rt.alloc(), &many, two_files(TOLLS_ONLY, ""), 2, USAGE)
+    expect_words(&rt, rt.alloc(), &many, with_tolls(TOLLS_ONLY, ""), 2, USAGE)
 }
 
 #[test]
 fn a_shelf_that_fails_at_the_tolls(rt: HostRuntime) -> Result<(), Fail> {
-    let mut shelf = two_files(TOLLS_ONLY, "");
+    let mut shelf = with_tolls(TOLLS_ONLY, "");
     shelf.fails = true;
     let words = ["eval", "file", "tolls"];
     expect_words(&rt, rt.alloc(), &words, shelf, 5, "shelf fault tolls\n")

@@ -2,6 +2,10 @@
 #![tactic(auto)]
 
 #[cfg(test)]
+mod check;
+#[cfg(test)]
 mod eval;
+#[cfg(test)]
+mod fixtures;
 #[cfg(test)]
 mod runs;

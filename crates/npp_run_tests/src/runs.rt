@@ -1,6 +1,7 @@
 //! Runs on one file, and on a shelf and a sink that fail.
 ghost use Rattle.std.specs.Prelude.{None};
 
+use crate::fixtures::{RING, THREE_PAIRS, TWO_ROADS, TWO_ROADS_CERTIFICATE, USAGE, chain, words};
 use npp_cli::run;
 use npp_outside::{Shelf, ShelfAnswer, Sink, SinkAnswer, SureShelf, SureSink};
 use std::alloc::Global;
@@ -8,28 +9,24 @@ use std::fmt::Write;
 use std::process::Abort;
 use std::test::Fail;
 
-const TWO_ROADS: &str = "npp 1\nnode a\nnode b\nfree a b 10\ntoll a b 2\npair a b 5\n";
-
 const TWO_ROADS_WITH_BLANKS: &str =
     "# two roads\r\nnpp 1\r\n\r\nnode a\r\n node\tb\r\nfree a b 10\r\ntoll a b 2\r\n\r\npair a b 5";
 
-const THREE_PAIRS: &str =
-    "npp 1\nnode a\nnode b\nnode p\nnode q\nnode r\ntoll a b 2\nfree p a 0\nfree p b 10\nfree q a 0\nfree q b 8\nfree r a 0\nfree r b 5\npair p b 1\npair q b 1\npair r b 3\n";
+const TWO_PAIRS: &str =
+    "npp 1\nnode a\nnode b\nnode p\nnode q\ntoll a b 2\nfree p a 0\nfree p b 10\nfree q a 0\nfree q b 5\npair p b 1\npair q b 3\n";
 
 const TWO_ROADS_REPORT: &str =
     "npp-certificate 1\nstatus optimal\nwidth 64\nlower 40\nupper 40\nopened 0\ntoll 0 8\npath 0 2 8 1\n";
 
-const RING: &str =
-    "npp 1\nnode x\nnode y\nnode z\ntoll x y 0\ntoll y z 0\ntoll z x 0\nfree x z 1\nfree y x 1\nfree z y 1\npair x z 1\npair y x 1\npair z y 1\n";
+// At toll 1 all of the first two pairs pay, at toll 2 only the second pair, and the third pays up to 1,500,000.
+const STEEP_PAIRS: &str =
+    "npp 1\nnode a\nnode b\nnode o\nnode d\nnode p\nnode q\ntoll a b 0\nfree o a 0\nfree o d 1000000\nfree d b 500000\nfree p a 0\nfree p b 1\nfree q a 0\nfree q b 2\npair p b 1000000\npair q b 900000\npair o b 1\n";
 
 const NEEDLESS_TOLL: &str =
     "npp 1\nnode a\nnode m\nnode b\nfree a b 10\ntoll a m 1\nfree m b 1\ntoll m b 1\npair a b 1\n";
 
 const CYCLES: &str =
     "npp 1\nnode a\nnode b\nnode c\nnode d\ntoll b d 1\nfree a b 10\ntoll a b 2\ntoll a b 2\ntoll a b 4\nfree a a 0\ntoll a a 0\nfree a c 0\nfree c a 0\ntoll c a 0\ntoll c b 1\nfree a d 9\npair a b 5\npair c d 1\n";
-
-const USAGE: &str =
-    "usage: npp solve FILE [--budget N] [--cuts N] [--numbers W] [--brief]\n       npp check FILE CERTIFICATE\n       npp bounds FILE\n       npp paths FILE\n       npp eval FILE TOLLS\n       npp gen NUMBER\n       npp demo NUMBER [--budget N] [--cuts N] [--numbers W]\n";
 
 // Gives one byte a call of its only file, which every name finds, and fails from the call after `most` bytes on.
 #[derive(Drop)]
@@ -77,20 +74,11 @@ impl Sink for Broken {
     }
 }
 
-fn words(alloc: Global, job: &str, first: &str) -> Result<Vec<String>, Fail> {
-    let mut words = Vec::new(alloc);
-    words.push(String::from_str(alloc, "npp")?)?;
-    words.push(String::from_str(alloc, job)?)?;
-    words.push(String::from_str(alloc, first)?)?;
-    Ok(words)
-}
-
-// A run over one file of this text: its status and what is written are these.
+// A run of these words over one file of this text: its status and what is written are these.
 fn expect(
     rt: &impl Abort,
     alloc: Global,
-    job: &str,
-    first: &str,
+    line: &str,
     text: &[u8],
     status: u8,
     written: &str,
@@ -99,7 +87,7 @@ fn expect(
     let bytes = Vec::from_slice(alloc, text)?;
     let mut shelf = SureShelf::new(Vec::from_array(alloc, [(name, bytes)])?);
     let mut out = SureSink::new(alloc);
-    let words = words(alloc, job, first)?;
+    let words = words(alloc, line)?;
     assert_eq!(rt; run(alloc, &words, &mut shelf, &mut out), status);
     assert_eq!(rt; out.written(), written.as_bytes());
     Ok(())
@@ -111,9 +99,14 @@ fn reports(rt: HostRuntime) -> Result<(), Fail> {
         (TWO_ROADS, 0, TWO_ROADS_REPORT),
         (TWO_ROADS_WITH_BLANKS, 0, TWO_ROADS_REPORT),
         (
+            TWO_PAIRS,
+            0,
+            "npp-certificate 1\nstatus optimal\nwidth 64\nlower 12\nupper 12\nopened 1\ntoll 0 3\npath 0 2 3 1 0\npath 1 2 3 3 0\n",
+        ),
+        (
             THREE_PAIRS,
-            1,
-            "npp-certificate 1\nstatus budget\nwidth 64\nlower 15\nupper 23\nopened 0\ntoll 0 3\npath 0 2 3 1 0\npath 1 2 3 3 0\npath 2 2 3 5 0\n",
+            0,
+            "npp-certificate 1\nstatus optimal\nwidth 64\nlower 15\nupper 15\nopened 2\ntoll 0 3\npath 0 2 3 1 0\npath 1 2 3 3 0\npath 2 2 3 5 0\n",
         ),
         (
             RING,
@@ -145,12 +138,38 @@ fn reports(rt: HostRuntime) -> Result<(), Fail> {
         expect(
             &rt,
             rt.alloc(),
-            "solve",
-            "file",
+            "solve file --brief",
             text.as_bytes(),
             status,
             written,
         )?;
+    }
+    Ok(())
+}
+
+// A bound in floating point comes to 2,800,001 here; no tolls earn more than 1,900,001.
+#[test]
+fn a_small_toll_among_great_costs(rt: HostRuntime) -> Result<(), Fail> {
+    let alloc = rt.alloc();
+    let name = String::from_str(alloc, "file")?;
+    let bytes = Vec::from_slice(alloc, STEEP_PAIRS.as_bytes())?;
+    let mut shelf = SureShelf::new(Vec::from_array(alloc, [(name, bytes)])?);
+    let mut out = SureSink::new(alloc);
+    let words = words(alloc, "solve file --brief")?;
+    assert_eq!(rt; run(alloc, &words, &mut shelf, &mut out), 0);
+    let text = std::str::from_utf8(out.written())?;
+    assert_eq!(rt; text.lines().count(), 10);
+    let rows = [
+        (1, "status optimal"),
+        (3, "lower 1900001"),
+        (4, "upper 1900001"),
+        (6, "toll 0 1"),
+        (7, "path 0 0 1 4 0"),
+        (8, "path 1 0 1 6 0"),
+        (9, "path 2 0 1 1 0"),
+    ];
+    for (index, line) in rows {
+        assert_eq!(rt; text.lines().nth(index), Some(line));
     }
     Ok(())
 }
@@ -165,15 +184,7 @@ fn spans(rt: HostRuntime) -> Result<(), Fail> {
         ),
     ];
     for (text, written) in rows {
-        expect(
-            &rt,
-            rt.alloc(),
-            "bounds",
-            "file",
-            text.as_bytes(),
-            0,
-            written,
-        )?;
+        expect(&rt, rt.alloc(), "bounds file", text.as_bytes(), 0, written)?;
     }
     Ok(())
 }
@@ -183,57 +194,119 @@ fn refusals(rt: HostRuntime) -> Result<(), Fail> {
     let tolls_only = "npp 1\nnode a\nnode b\ntoll a b 1\npair a b 1\n";
     let repeated = "npp 1\nnode a\nnode a\n";
     let rows = [
-        ("solve", "file", tolls_only, 10, "refused no-free-path 0\n"),
-        ("bounds", "file", tolls_only, 10, "refused no-free-path 0\n"),
-        ("paths", "file", tolls_only, 10, "refused no-free-path 0\n"),
-        ("solve", "file", "", 3, "refused instance line 1 Header\n"),
+        ("solve file", tolls_only, 10, "refused no-free-path 0\n"),
+        ("bounds file", tolls_only, 10, "refused no-free-path 0\n"),
+        ("paths file", tolls_only, 10, "refused no-free-path 0\n"),
+        ("solve file", "", 3, "refused instance line 1 Header\n"),
         (
-            "solve",
-            "file",
+            "solve file",
             repeated,
             3,
             "refused instance line 3 RepeatedNode\n",
         ),
-        ("solve", "none", "", 4, "missing none\n"),
-        ("paths", "none", "", 4, "missing none\n"),
-        ("solve", "--file", "", 2, USAGE),
-        ("paths", "-x", "", 2, USAGE),
-        ("price", "file", "", 2, USAGE),
-        ("gen", "x", "", 2, USAGE),
-        ("gen", "1000000", "", 2, USAGE),
+        ("solve none", "", 4, "missing none\n"),
+        ("paths none", "", 4, "missing none\n"),
     ];
-    for (job, first, text, status, written) in rows {
-        expect(
-            &rt,
-            rt.alloc(),
-            job,
-            first,
-            text.as_bytes(),
-            status,
-            written,
-        )?;
+    for (line, text, status, written) in rows {
+        expect(&rt, rt.alloc(), line, text.as_bytes(), status, written)?;
     }
     let long = vec![in rt.alloc(); b'#'; 4_194_305]?;
     expect(
         &rt,
         rt.alloc(),
-        "solve",
-        "file",
+        "solve file",
         &long,
         12,
         "refused too-long file\n",
     )
 }
 
+// Words that are refused, each for a cause of its own.
 #[test]
-fn a_word_too_many(rt: HostRuntime) -> Result<(), Fail> {
-    let alloc = rt.alloc();
-    let mut words = words(alloc, "paths", "file")?;
-    words.push(String::from_str(alloc, "file")?)?;
-    let mut shelf = SureShelf::new(Vec::new(alloc));
-    let mut out = SureSink::new(alloc);
-    assert_eq!(rt; run(alloc, &words, &mut shelf, &mut out), 2);
-    assert_eq!(rt; out.written(), USAGE.as_bytes());
+fn no_job(rt: HostRuntime) -> Result<(), Fail> {
+    let lines = [
+        "solve",
+        "solve file file",
+        "paths file file",
+        "price file",
+        "eval file",
+        "check file",
+        "solve file --numbers 16",
+        "solve file --cuts 0",
+        "solve file --budget",
+        "solve file --budget 100001",
+        "solve file --budget x",
+        "solve file --brief --brief",
+        "solve --file",
+        "paths -x",
+        "solve --help",
+        "gen x",
+        "gen 1000000",
+        "demo 1000000",
+        "demo 7 7",
+    ];
+    for line in lines {
+        expect(&rt, rt.alloc(), line, TWO_ROADS.as_bytes(), 2, USAGE)?;
+    }
+    Ok(())
+}
+
+// What is taken as a number is taken, and an option may stand anywhere; a job that does not use it goes on without it.
+#[test]
+fn options(rt: HostRuntime) -> Result<(), Fail> {
+    let rows = [
+        ("solve file --brief --budget +007", TWO_ROADS_REPORT),
+        ("--budget=-0 solve --brief file", TWO_ROADS_REPORT),
+        ("solve --brief -- file", TWO_ROADS_REPORT),
+        ("bounds file --brief --budget 3", "span 0 10 2\nbasic 40\n"),
+    ];
+    for (line, written) in rows {
+        expect(&rt, rt.alloc(), line, TWO_ROADS.as_bytes(), 0, written)?;
+    }
+    Ok(())
+}
+
+// Whole certificates: one of a root that was not opened, and one of no toll arc.
+#[test]
+fn certificates(rt: HostRuntime) -> Result<(), Fail> {
+    let no_toll =
+        "npp-certificate 1\nstatus optimal\nwidth 64\nlower 0\nupper 0\nopened 0\npath 0 4 0 0\ncover 0 0\nfree 0\ncuts 0\ntree\nopen\nend\n";
+    let rows = [
+        (TWO_ROADS, TWO_ROADS_CERTIFICATE),
+        (TWO_ROADS_WITH_BLANKS, TWO_ROADS_CERTIFICATE),
+        ("npp 1\nnode a\nnode b\nfree a b 4\npair a b 1\n", no_toll),
+    ];
+    for (text, written) in rows {
+        expect(&rt, rt.alloc(), "solve file", text.as_bytes(), 0, written)?;
+    }
+    Ok(())
+}
+
+// One node leaves a bound above the lower value; as many as twice the choices less one must close it.
+#[test]
+fn budgets(rt: HostRuntime) -> Result<(), Fail> {
+    let rows = [
+        (
+            "solve file --budget 1 --brief",
+            1,
+            "npp-certificate 1\nstatus budget\nwidth 64\nlower 15\nupper 78/5\nopened 1\ntoll 0 3\npath 0 2 3 1 0\npath 1 2 3 3 0\npath 2 2 3 5 0\n",
+        ),
+        (
+            "solve file --budget 15 --brief",
+            0,
+            "npp-certificate 1\nstatus optimal\nwidth 64\nlower 15\nupper 15\nopened 2\ntoll 0 3\npath 0 2 3 1 0\npath 1 2 3 3 0\npath 2 2 3 5 0\n",
+        ),
+    ];
+    for (line, status, written) in rows {
+        expect(
+            &rt,
+            rt.alloc(),
+            line,
+            THREE_PAIRS.as_bytes(),
+            status,
+            written,
+        )?;
+    }
     Ok(())
 }
 
@@ -251,31 +324,9 @@ fn useful_paths(rt: HostRuntime) -> Result<(), Fail> {
         ),
     ];
     for (text, written) in rows {
-        expect(
-            &rt,
-            rt.alloc(),
-            "paths",
-            "file",
-            text.as_bytes(),
-            0,
-            written,
-        )?;
+        expect(&rt, rt.alloc(), "paths file", text.as_bytes(), 0, written)?;
     }
     Ok(())
-}
-
-// So many links in a row, each a toll-free arc of cost 1 beside a toll arc of cost 0.
-fn chain(alloc: Global, links: u32) -> Result<String, Fail> {
-    let mut text = String::from_str(alloc, "npp 1\nnode v0\n")?;
-    for i in 0..links {
-        let next = i + 1;
-        writeln!(
-            text,
-            "node v{next}\nfree v{i} v{next} 1\ntoll v{i} v{next} 0"
-        )?;
-    }
-    writeln!(text, "pair v0 v{links} 1")?;
-    Ok(text)
 }
 
 // 16 links have 131,070 useful labels.
@@ -283,15 +334,7 @@ fn chain(alloc: Global, links: u32) -> Result<String, Fail> {
 fn over_the_limit_on_labels(rt: HostRuntime) -> Result<(), Fail> {
     let text = chain(rt.alloc(), 16)?;
     let refusal = "refused too-many-labels 0\n";
-    expect(
-        &rt,
-        rt.alloc(),
-        "paths",
-        "file",
-        text.as_bytes(),
-        11,
-        refusal,
-    )
+    expect(&rt, rt.alloc(), "paths file", text.as_bytes(), 11, refusal)
 }
 
 // 11 links have 2,048 useful paths.
@@ -299,8 +342,8 @@ fn over_the_limit_on_labels(rt: HostRuntime) -> Result<(), Fail> {
 fn over_the_limit_on_paths(rt: HostRuntime) -> Result<(), Fail> {
     let text = chain(rt.alloc(), 11)?;
     let refusal = "refused too-many-paths 0\n";
-    for job in ["paths", "solve"] {
-        expect(&rt, rt.alloc(), job, "file", text.as_bytes(), 11, refusal)?;
+    for line in ["paths file", "solve file"] {
+        expect(&rt, rt.alloc(), line, text.as_bytes(), 11, refusal)?;
     }
     Ok(())
 }
@@ -334,16 +377,16 @@ fn as_many_toll_arcs_as_there_may_be(rt: HostRuntime) -> Result<(), Fail> {
     )?;
     let most = side_by_side(alloc, 128)?;
     let rows = [
-        ("bounds", "span 0 200 0\nbasic 200\n"),
-        ("paths", useful.as_str()),
-        ("solve", report.as_str()),
+        ("bounds file", "span 0 200 0\nbasic 200\n"),
+        ("paths file", useful.as_str()),
+        ("solve file --brief", report.as_str()),
     ];
-    for (job, written) in rows {
-        expect(&rt, alloc, job, "file", most.as_bytes(), 0, written)?;
+    for (line, written) in rows {
+        expect(&rt, alloc, line, most.as_bytes(), 0, written)?;
     }
     let over = side_by_side(alloc, 129)?;
     let refusal = "refused instance line 133 TooManyTolls\n";
-    expect(&rt, alloc, "paths", "file", over.as_bytes(), 3, refusal)
+    expect(&rt, alloc, "paths file", over.as_bytes(), 3, refusal)
 }
 
 // Two roads whose toll arc has this line, in the second format.
@@ -352,50 +395,50 @@ fn with_toll_line(alloc: Global, line: &str) -> Result<String, Fail> {
     Ok(text)
 }
 
-// Bounds and useful paths hold of all tolls, whatever the ceiling; a report names it.
+// The basic bound and useful paths hold of all tolls, whatever the ceiling; the search keeps it, and a report names it.
 #[test]
 fn ceilings(rt: HostRuntime) -> Result<(), Fail> {
     let alloc = rt.alloc();
     let bound =
-        "npp-certificate 2\nstatus budget\nwidth 64\nlower 15\nupper 40\nopened 0\ninstance 2 2 1 1\nlimit 0 3\ntoll 0 3\npath 0 2 3 1\n";
+        "npp-certificate 2\nstatus optimal\nwidth 64\nlower 15\nupper 15\nopened 1\ninstance 2 2 1 1\nlimit 0 3\ntoll 0 3\npath 0 2 3 1\n";
     let zero =
-        "npp-certificate 2\nstatus budget\nwidth 64\nlower 0\nupper 40\nopened 0\ninstance 2 2 1 1\nlimit 0 0\ntoll 0 0\npath 0 2 0 1\n";
+        "npp-certificate 2\nstatus optimal\nwidth 64\nlower 0\nupper 0\nopened 1\ninstance 2 2 1 1\nlimit 0 0\ntoll 0 0\npath 0 2 0 1\n";
     let loose =
         "npp-certificate 2\nstatus optimal\nwidth 64\nlower 40\nupper 40\nopened 0\ninstance 2 2 1 1\nlimit 0 20\ntoll 0 8\npath 0 2 8 1\n";
     let useful = "commodity 0 2\nuseful 0 0 2 tolls 0 arcs 1\nuseful 0 1 10 tolls arcs 0\n";
     let rows = [
-        ("solve", "toll a b 2 3", 1, bound),
-        ("solve", "toll a b 2 0", 1, zero),
-        ("solve", "toll a b 2 20", 0, loose),
-        ("solve", "toll a b 2 -", 0, TWO_ROADS_REPORT),
-        ("bounds", "toll a b 2 3", 0, "span 0 10 2\nbasic 40\n"),
-        ("paths", "toll a b 2 0", 0, useful),
+        ("solve file --brief", "toll a b 2 3", 0, bound),
+        ("solve file --brief", "toll a b 2 0", 0, zero),
+        ("solve file --brief", "toll a b 2 20", 0, loose),
+        ("solve file --brief", "toll a b 2 -", 0, TWO_ROADS_REPORT),
+        ("bounds file", "toll a b 2 3", 0, "span 0 10 2\nbasic 40\n"),
+        ("paths file", "toll a b 2 0", 0, useful),
         (
-            "solve",
+            "solve file",
             "toll a b 2",
             3,
             "refused instance line 5 FieldCount\n",
         ),
         (
-            "solve",
+            "solve file",
             "toll a b 2 x",
             3,
             "refused instance line 5 BadNumber\n",
         ),
         (
-            "solve",
+            "solve file",
             "toll a b 2 1000000001",
             3,
             "refused instance line 5 NumberTooLarge\n",
         ),
     ];
-    for (job, line, status, written) in rows {
+    for (words, line, status, written) in rows {
         let text = with_toll_line(alloc, line)?;
-        expect(&rt, alloc, job, "file", text.as_bytes(), status, written)?;
+        expect(&rt, alloc, words, text.as_bytes(), status, written)?;
     }
     let other = "npp 3\nnode a\n";
     let refusal = "refused instance line 1 Header\n";
-    expect(&rt, alloc, "solve", "file", other.as_bytes(), 3, refusal)
+    expect(&rt, alloc, "solve file", other.as_bytes(), 3, refusal)
 }
 
 #[test]
@@ -403,7 +446,7 @@ fn a_generated_instance(rt: HostRuntime) -> Result<(), Fail> {
     let alloc = rt.alloc();
     let mut shelf = SureShelf::new(Vec::new(alloc));
     let mut out = SureSink::new(alloc);
-    let words = words(alloc, "gen", "7")?;
+    let words = words(alloc, "gen 7")?;
     assert_eq!(rt; run(alloc, &words, &mut shelf, &mut out), 0);
     let text = std::str::from_utf8(out.written())?;
     assert_eq!(rt; text.lines().count(), 83);
@@ -423,10 +466,33 @@ fn a_generated_instance(rt: HostRuntime) -> Result<(), Fail> {
     Ok(())
 }
 
+// `demo` prints what `solve --brief` prints of the text of the generated instance.
+#[test]
+fn a_demonstration(rt: HostRuntime) -> Result<(), Fail> {
+    let alloc = rt.alloc();
+    let mut shelf = SureShelf::new(Vec::new(alloc));
+    let mut generated = SureSink::new(alloc);
+    let gen_words = words(alloc, "gen 7")?;
+    assert_eq!(rt; run(alloc, &gen_words, &mut shelf, &mut generated), 0);
+    let mut shown = SureSink::new(alloc);
+    let demo_words = words(alloc, "demo 7 --budget 5")?;
+    let status = run(alloc, &demo_words, &mut shelf, &mut shown);
+    let text = std::str::from_utf8(shown.written())?;
+    assert_eq!(rt; text.lines().nth(0), Some("npp-certificate 1"));
+    expect(
+        &rt,
+        alloc,
+        "solve file --budget 5 --brief",
+        generated.written(),
+        status,
+        text,
+    )
+}
+
 #[test]
 fn slow_and_failing(rt: HostRuntime) -> Result<(), Fail> {
     let alloc = rt.alloc();
-    let words = words(alloc, "bounds", "file")?;
+    let words = words(alloc, "bounds file")?;
     let mut out = SureSink::new(alloc);
     let mut slow = Slow {
         text: TWO_ROADS,

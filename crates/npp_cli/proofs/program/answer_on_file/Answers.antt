@@ -1,26 +1,26 @@
-use Rattle.std.proofs.Common.{string_bytes}
 use Rattle.std.proofs.lemmas.Result.{IfOk-weaker}
 use Rattle.npp_cli.specs.declared.answers.Answer.{Answer}
 use Rattle.npp_cli.specs.Answers.{AnswersOf, instance_limit}
+use Rattle.npp_cli.specs.Answer.{answer_text}
 use Rattle.npp_cli.proofs.FileLemmas.{not_taken_answered, refusal_cause, taken_answered}
 use Rattle.npp_cli.proofs.program.answer_on_file.Goals as goal
 
 pub returns-in-Ok-clause-answer : goal.returns-in-Ok-clause-answer
 returns-in-Ok-clause-answer g c =
     IfOk-weaker c.answer_on_bytes.result _ _
-    (λ (answer : Answer). taken_answered (AnswersOf c.args.job) instance_limit c.args.file.now answer.status (string_bytes answer.text) (g.S.Shelf.held c.args.shelf.now)
+    (λ (answer : Answer). taken_answered (AnswersOf c.args.job) instance_limit c.args.file.now answer.status (answer_text answer) (g.S.Shelf.held c.args.shelf.now)
     c.in-Ok.bytes c.in-Ok.ensures.bytes c.in-Ok.ensures.within)
     (rw c.deref.ensures.value at c.answer_on_bytes.ensures)
 
 pub returns-in-Err-clause-answer : goal.returns-in-Err-clause-answer
 returns-in-Err-clause-answer g c =
     IfOk-weaker c.not_taken.result _ _
-    (λ (answer : Answer). not_taken_answered (AnswersOf c.args.job) instance_limit c.args.file.now answer.status (string_bytes answer.text) (g.S.Shelf.held c.args.shelf.now)
+    (λ (answer : Answer). not_taken_answered (AnswersOf c.args.job) instance_limit c.args.file.now answer.status (answer_text answer) (g.S.Shelf.held c.args.shelf.now)
     c.in-Err.refusal c.in-Err.ensures.bytes)
     c.not_taken.ensures
 
 pub returns-in-Err-clause-cause : goal.returns-in-Err-clause-cause
 returns-in-Err-clause-cause g c =
     IfOk-weaker c.not_taken.result _ _
-    (λ (answer : Answer). refusal_cause _ _ _ _ c.args.file.now answer.status (string_bytes answer.text) c.in-Err.refusal c.in-Err.ensures.cause)
+    (λ (answer : Answer). refusal_cause _ _ _ _ c.args.file.now answer.status (answer_text answer) c.in-Err.refusal c.in-Err.ensures.cause)
     c.not_taken.ensures

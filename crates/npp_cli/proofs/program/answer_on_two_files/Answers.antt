@@ -1,14 +1,14 @@
-use Rattle.std.proofs.Common.{string_bytes}
 use Rattle.std.proofs.lemmas.Result.{IfOk-weaker}
 use Rattle.npp_cli.specs.declared.answers.Answer.{Answer}
 use Rattle.npp_cli.specs.Answers.{AnswersWithTolls, instance_limit}
+use Rattle.npp_cli.specs.Answer.{answer_text}
 use Rattle.npp_cli.proofs.FileLemmas.{later_cause, not_taken_answered, refusal_cause, taken_answered}
 use Rattle.npp_cli.proofs.program.answer_on_two_files.Goals as goal
 
 pub returns-in-Ok-clause-answer : goal.returns-in-Ok-clause-answer
 returns-in-Ok-clause-answer g c =
     IfOk-weaker c.eval_on_bytes.result _ _
-    (λ (answer : Answer). taken_answered (AnswersWithTolls (g.S.Shelf.held c.args.shelf.now) c.args.tolls.now) instance_limit c.args.file.now answer.status (string_bytes answer.text)
+    (λ (answer : Answer). taken_answered (AnswersWithTolls (g.S.Shelf.held c.args.shelf.now) c.args.tolls.now) instance_limit c.args.file.now answer.status (answer_text answer)
     (g.S.Shelf.held c.args.shelf.now) c.in-Ok.bytes c.in-Ok.ensures.bytes c.in-Ok.ensures.within)
     (rw (c.deref.ensures.value, c.in-Ok.ensures.held) at c.eval_on_bytes.ensures.answer)
 
@@ -21,12 +21,12 @@ returns-in-Ok-clause-cause g c =
 pub returns-in-Err-clause-answer : goal.returns-in-Err-clause-answer
 returns-in-Err-clause-answer g c =
     IfOk-weaker c.not_taken.result _ _
-    (λ (answer : Answer). not_taken_answered (AnswersWithTolls (g.S.Shelf.held c.args.shelf.now) c.args.tolls.now) instance_limit c.args.file.now answer.status (string_bytes answer.text)
+    (λ (answer : Answer). not_taken_answered (AnswersWithTolls (g.S.Shelf.held c.args.shelf.now) c.args.tolls.now) instance_limit c.args.file.now answer.status (answer_text answer)
     (g.S.Shelf.held c.args.shelf.now) c.in-Err.refusal c.in-Err.ensures.bytes)
     c.not_taken.ensures
 
 pub returns-in-Err-clause-cause : goal.returns-in-Err-clause-cause
 returns-in-Err-clause-cause g c =
     IfOk-weaker c.not_taken.result _ _
-    (λ (answer : Answer). refusal_cause _ _ _ _ c.args.file.now answer.status (string_bytes answer.text) c.in-Err.refusal c.in-Err.ensures.cause)
+    (λ (answer : Answer). refusal_cause _ _ _ _ c.args.file.now answer.status (answer_text answer) c.in-Err.refusal c.in-Err.ensures.cause)
     c.not_taken.ensures

@@ -1,0 +1,210 @@
+//! Runs of `check`, on an instance and a certificate.
+
+use crate::fixtures::{THREE_PAIRS, TWO_ROADS, TWO_ROADS_CERTIFICATE, two_files, words};
+use npp_cli::run;
+use npp_outside::{MemoryShelf, MemorySink, SureShelf, SureSink};
+use std::alloc::Global;
+use std::process::Abort;
+use std::test::Fail;
+
+// Of one opened node, whose dual answer was found by hand.
+const THREE_PAIRS_CERTIFICATE: &str =
+    "npp-certificate 1\nstatus budget\nwidth 64\nlower 15\nupper 78/5\nopened 1\ntoll 0 3\npath 0 2 3 1 0\npath 1 2 3 3 0\npath 2 2 3 5 0\ncover 0 3\nstart\nstep 0 1\nstep 1 0\nfree 2\ncover 1 3\nstart\nstep 0 3\nstep 1 0\nfree 4\ncover 2 3\nstart\nstep 0 5\nstep 1 0\nfree 6\ncuts 0\ntree\ndual 6\ny below 0 0 1\ny below 0 1 19/20\ny use 0 1 1/5\ny use 0 2 24/5\ny link 0 1 3/20\ny link 0 2 9/5\nsplit 2 1\nopen\nopen\nend\n";
+
+// A run of `check` on these two files: its status and what is written are these.
+fn expect(
+    rt: &impl Abort,
+    alloc: Global,
+    instance: &str,
+    certificate: &[u8],
+    status: u8,
+    written: &str,
+) -> Result<(), Fail> {
+    let mut shelf = two_files(instance, "certificate", certificate);
+    let mut out = SureSink::new(alloc);
+    let words = words(alloc, "check file certificate")?;
+    assert_eq!(rt; run(alloc, &words, &mut shelf, &mut out), status);
+    assert_eq!(rt; out.written(), written.as_bytes());
+    Ok(())
+}
+
+// The lines of a text, of which those from one number to another, both counted from 1, are replaced by others.
+fn changed(alloc: Global, text: &str, from: usize, to: usize, lines: &str) -> Result<String, Fail> {
+    let mut all = String::new(alloc);
+    let mut number = 0_usize;
+    for line in text.lines() {
+        number = number.saturating_add(1);
+        if number == from {
+            all.push_str(lines)?;
+        }
+        if number < from || to < number {
+            all.push_str(line)?;
+            all.push_str("\n")?;
+        }
+    }
+    Ok(all)
+}
+
+#[test]
+fn accepted(rt: HostRuntime) -> Result<(), Fail> {
+    let rows = [
+        (
+            TWO_ROADS,
+            TWO_ROADS_CERTIFICATE,
+            "accepted lower 40 upper 40\n",
+        ),
+        (
+            THREE_PAIRS,
+            THREE_PAIRS_CERTIFICATE,
+            "accepted lower 15 upper 78/5\n",
+        ),
+    ];
+    for (instance, certificate, written) in rows {
+        expect(
+            &rt,
+            rt.alloc(),
+            instance,
+            certificate.as_bytes(),
+            0,
+            written,
+        )?;
+    }
+    Ok(())
+}
+
+// Changes of the certificate of the two roads, each with the line and the rule that it breaks.
+#[test]
+fn changes_of_a_small_certificate(rt: HostRuntime) -> Result<(), Fail> {
+    let rows = [
+        (16, 16, "", "16 Order"),
+        (7, 7, "toll 0 16/2\n", "7 Text"),
+        (8, 8, "path 0 2 7 1\n", "8 Path"),
+        (7, 8, "toll 0 9\npath 0 2 9 1\n", "13 Path"),
+        (4, 4, "lower 39\n", "13 Lower"),
+        (5, 5, "upper 39\n", "16 Upper"),
+        (9, 12, "cover 0 1\nstart\nfree 0\n", "11 Cover NotClosed"),
+        (15, 15, "basic large\nsplit 0 0 1\nopen\nopen\n", "16 Split"),
+        (2, 2, "status budget\n", "16 Status"),
+        (6, 6, "opened 1\n", "16 Opened"),
+    ];
+    let alloc = rt.alloc();
+    for (from, to, lines, named) in rows {
+        let certificate = changed(alloc, TWO_ROADS_CERTIFICATE, from, to, lines)?;
+        let written = format!(in alloc; "refused certificate line {named}\n")?;
+        expect(
+            &rt,
+            alloc,
+            TWO_ROADS,
+            certificate.as_bytes(),
+            9,
+            written.as_str(),
+        )?;
+    }
+    let whole = TWO_ROADS_CERTIFICATE.as_bytes();
+    let cut = whole
+        .get(..whole.len().saturating_sub(3))
+        .ok_or("long enough")?;
+    let refusal = "refused certificate line 16 Text\n";
+    expect(&rt, alloc, TWO_ROADS, cut, 9, refusal)
+}
+
+// The same of the certificate of one opened node.
+#[test]
+fn changes_of_a_dual_answer(rt: HostRuntime) -> Result<(), Fail> {
+    let rows = [
+        (7, 7, "toll 0 -3\n", "7 Tolls"),
+        (10, 10, "path 2 2 3 5\n", "10 Path"),
+        (14, 14, "step 2 0\n", "14 Cover NotAStep"),
+        (28, 28, "inverse 6\n", "28 Evidence"),
+        (28, 28, "farkas 6\n", "34 Evidence"),
+        (29, 30, "y below 0 1 19/20\ny below 0 0 1\n", "30 Evidence"),
+        (30, 30, "y below 0 1 0\n", "30 Evidence"),
+        (34, 34, "y link 0 2 8/5\n", "34 Evidence"),
+        (35, 35, "split 2 0 1\n", "35 Split"),
+        (6, 6, "opened 2\n", "38 Opened"),
+        (5, 5, "upper 15\n", "38 Upper"),
+        (2, 2, "status optimal\n", "38 Status"),
+    ];
+    let alloc = rt.alloc();
+    for (from, to, lines, named) in rows {
+        let certificate = changed(alloc, THREE_PAIRS_CERTIFICATE, from, to, lines)?;
+        let written = format!(in alloc; "refused certificate line {named}\n")?;
+        expect(
+            &rt,
+            alloc,
+            THREE_PAIRS,
+            certificate.as_bytes(),
+            9,
+            written.as_str(),
+        )?;
+    }
+    Ok(())
+}
+
+// Causes other than a broken line, and a line that is broken in a certificate that is too long by what stands behind it.
+#[test]
+fn other_refusals(rt: HostRuntime) -> Result<(), Fail> {
+    let tolls_only = "npp 1\nnode a\nnode b\ntoll a b 1\npair a b 1\n";
+    let rows = [
+        (tolls_only, 10, "refused no-free-path 0\n"),
+        ("npp 1\n", 3, "refused instance line 2 NoCommodity\n"),
+    ];
+    for (instance, status, written) in rows {
+        expect(&rt, rt.alloc(), instance, b"", status, written)?;
+    }
+    let alloc = rt.alloc();
+    let mut shelf = two_files(TWO_ROADS, "certificate", b"");
+    let mut out = SureSink::new(alloc);
+    let missing = words(alloc, "check file none")?;
+    assert_eq!(rt; run(alloc, &missing, &mut shelf, &mut out), 4);
+    assert_eq!(rt; out.written(), b"missing none\n".as_slice());
+    Ok(())
+}
+
+// What `solve` prints, `check` accepts with the printed values.
+#[test]
+fn what_is_printed_is_accepted(rt: HostRuntime) -> Result<(), Fail> {
+    let alloc = rt.alloc();
+    let mut nothing = SureShelf::new(Vec::new(alloc));
+    let mut generated = SureSink::new(alloc);
+    let gen_words = words(alloc, "gen 7")?;
+    assert_eq!(rt; run(alloc, &gen_words, &mut nothing, &mut generated), 0);
+    let instance = std::str::from_utf8(generated.written())?;
+    for (instance, line) in [
+        (THREE_PAIRS, "solve file"),
+        (THREE_PAIRS, "solve file --budget 1"),
+        (instance, "solve file --budget 5"),
+    ] {
+        let mut shelf = two_files(instance, "certificate", b"");
+        let mut out = SureSink::new(alloc);
+        let solve_words = words(alloc, line)?;
+        run(alloc, &solve_words, &mut shelf, &mut out);
+        let text = std::str::from_utf8(out.written())?;
+        let lower = text.lines().nth(3).ok_or("a lower value")?;
+        let upper = text.lines().nth(4).ok_or("an upper value")?;
+        let written = format!(in alloc; "accepted {lower} {upper}\n")?;
+        expect(&rt, alloc, instance, out.written(), 0, written.as_str())?;
+    }
+    Ok(())
+}
+
+// A shelf and a sink that fail where they are told to.
+#[test]
+fn failing(rt: HostRuntime) -> Result<(), Fail> {
+    let alloc = rt.alloc();
+    let solve_words = words(alloc, "solve file")?;
+    let mut shelf = two_files(TWO_ROADS, "certificate", b"");
+    let mut cut = MemorySink::new(alloc, 16, vec![in alloc; 2]?);
+    assert_eq!(rt; run(alloc, &solve_words, &mut shelf, &mut cut), 6);
+    assert_eq!(rt; cut.written(), b"npp-certificate ".as_slice());
+    let file = String::from_str(alloc, "file")?;
+    let bytes = Vec::from_slice(alloc, TWO_ROADS.as_bytes())?;
+    let mut failing = MemoryShelf::new(
+        Vec::from_array(alloc, [(file, bytes)])?,
+        vec![in alloc; 1]?,
+    );
+    let mut out = SureSink::new(alloc);
+    assert_eq!(rt; run(alloc, &solve_words, &mut failing, &mut out), 5);
+    assert_eq!(rt; out.written(), b"shelf fault file\n".as_slice());
+    Ok(())
+}
