@@ -1,6 +1,6 @@
 //! The caps of tolls, with ceilings and without.
 
-use crate::fixtures::{covers_of, instance_of};
+use npp_fixtures::{covers_of, instance_of};
 use npp_rows::caps;
 use std::alloc::Global;
 use std::process::Abort;
@@ -13,7 +13,8 @@ fn cap_within(alloc: Global, ceiling: &str) -> Result<String, Fail> {
     )?;
     let net = instance_of(alloc, text.as_str())?;
     let covers = covers_of(alloc, &net)?;
-    let caps = caps(alloc, &net, &covers)?;
+    let covers = covers.as_slice();
+    let caps = caps(alloc, &net, covers)?;
     Ok(format!(in alloc; "{caps:?}")?)
 }
 
