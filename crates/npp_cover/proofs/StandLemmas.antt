@@ -1,10 +1,10 @@
 -- An extension by an arc is dominated where the one by the arc that stands for it is.
-use Rattle.std.proofs.Common.{◌≡◌, inl, inr, ℕ, suc, ◌+◌, ◌<◌, ◌≤◌, Bool, true, false, cond, List, [], ◌∷◌, length, get_or, Option, Some, None, All, find, refl, sym, ◌∙◌, ap, subst, arith, ◌^◌, bit_or, not, ◌&&◌}
+use Rattle.std.proofs.Common.{◌≡◌, inl, inr, ℕ, suc, ◌+◌, ◌<◌, ◌≤◌, Bool, true, false, cond, List, [], ◌∷◌, length, get_or, Option, Some, None, All, find, refl, sym, ◌∙◌, ap, subst, arith, ◌^◌, bit_or, not, ◌&&◌, nat_eq, nat_le, IfSome}
 use Rattle.std.proofs.lemmas.Bool.{cases_eq, and_parts, false≢true, false_from_ne_true}
 use Rattle.std.specs.Int.{bit_at}
 use Rattle.npp_net.specs.declared.types.ArcId.{ArcId}
 use Rattle.npp_net.specs.declared.types.NetArc.{NetArc}
-use Rattle.npp_net.specs.Network.{arc_at, toll_number}
+use Rattle.npp_net.specs.Network.{Network, IsNetwork, arc_at, toll_number}
 use Rattle.npp_net.specs.TollSets.{Has, IsWithin}
 use Rattle.npp_net.specs.declared.ends.End.TheVariants.{Tail}
 use Rattle.npp_net.specs.Ends.{leaving_arcs}
@@ -14,10 +14,10 @@ use Rattle.npp_cover.specs.declared.needed.NeededArc.{NeededArc}
 use Rattle.npp_cover.specs.Labels.{label_at, with_arc}
 use Rattle.npp_cover.specs.Fault.{can_win, is_dominated, is_open, open_arc}
 use Rattle.npp_cover.specs.Closed.{IsDominated}
-use Rattle.npp_cover.specs.Needed.{id_of, StandsFor, NeededValue, needed_at, AreNeededAt, AreNeeded}
-use Rattle.npp_cover.proofs.TestLemmas.{is_no}
+use Rattle.npp_cover.specs.Needed.{id_of, IsNeeded, IsPassed, is_past, is_past_noted, StandsFor, NeededValue, needed_at, AreNeededAt, AreNeeded}
+use Rattle.npp_cover.proofs.TestLemmas.{is_no, both, equal_of_test, le_of_test}
 use Rattle.npp_cover.proofs.SetLemmas.{with_same, with_other}
-use Rattle.npp_cover.proofs.ClosureLemmas.{test_of_dominated}
+use Rattle.npp_cover.proofs.ClosureLemmas.{test_of_dominated, head_within}
 use Rattle.npp_cover.proofs.NeededLemmas.{below_less}
 use Rattle.npp_cover.proofs.FaultLemmas.{dominated_of}
 
@@ -119,6 +119,25 @@ module _ (arcs : List NetArc) (onward : ℕ → Option ℕ) (free : ℕ) (labels
             dominated_open a open_a (stands_dominated arcs labels l a e found.2 (closed_dominated (id_of e) shut_e wins_e))
       ]
 
+  -- an extension by which the label is passed is not open by an arc to the same head that costs no less
+  pub past_is_shut : (e f : NeededArc) → IsNeeded arcs onward l.node.0 f → IsPassed labels l e → is_past e f ≡ true → is_open arcs onward free labels l (id_of f) ≡ false
+  past_is_shut e f needed_f passed past =
+      let parts = both (nat_eq e.head f.head) (nat_le e.cost f.cost) past in
+      let x : NetArc = arc_at arcs (id_of f) in
+      let same : e.head ≡ x.head.0 = equal_of_test e.head f.head parts.0 ∙ sym needed_f.head in
+      let le : e.cost ≤ f.cost = le_of_test e.cost f.cost parts.1 in
+      false_from_ne_true (is_open arcs onward free labels l (id_of f))
+      (λ open_f. dominated_open (id_of f) open_f
+      (subst (λ (v : ℕ). IsDominated labels v (with_arc arcs l.tolls (id_of f)) (l.cost + x.cost)) same
+      (dominated_up labels e.head l.tolls (l.cost + e.cost) (with_arc arcs l.tolls (id_of f)) (l.cost + x.cost)
+      (dominated_of labels e.head l.tolls (l.cost + e.cost) passed) (λ b has. keeps_tolls arcs l.tolls (id_of f) b has) (omega (arith, le, needed_f.cost)))))
+
+  -- so by what is noted
+  pub noted_is_shut : (noted : Option NeededArc) (f : NeededArc) → IsNeeded arcs onward l.node.0 f → IfSome noted (IsPassed labels l) → is_past_noted noted f ≡ true
+      → is_open arcs onward free labels l (id_of f) ≡ false
+  noted_is_shut None f needed_f passed past = cc
+  noted_is_shut (Some e) f needed_f passed past = past_is_shut e f needed_f passed past
+
   -- where no needed arc is open none is
   pub none_open : All (λ e. is_open arcs onward free labels l (id_of e) ≡ false) es → open_arc arcs onward free labels l ≡ None
   none_open shut =
@@ -133,3 +152,18 @@ pub needed_here : (arcs : List NetArc) (onward : ℕ → Option ℕ) (free nodes
     → m ≡ l → l.node.0 < nodes → es ≡ needed_at needed m.node.0 → AreNeededAt arcs onward free l.node.0 es
 needed_here arcs onward free nodes needed l m es known same lt is =
     subst (λ (xs : List NeededArc). AreNeededAt arcs onward free l.node.0 xs) (sym (is ∙ ap (λ (x : Label). needed_at needed x.node.0) same)) (known.each l.node.0 lt)
+
+-- each needed arc goes to a node of the network
+pub heads_within : (net : Network) (onward : ℕ → Option ℕ) (free v : ℕ) (es : List NeededArc) → IsNetwork net → AreNeededAt net.arcs onward free v es
+    → All (λ (e : NeededArc). e.head < net.nodes) es
+heads_within net onward free v es limits needed j d lt =
+    let at = needed.each j d lt in
+    let within : (arc_at net.arcs (id_of (get_or es j d))).head.0 < net.nodes = head_within net (id_of (get_or es j d)) limits at.in_range in
+    omega (arith, within, at.head)
+
+-- what holds of all numbers below n, and of n, holds of all below the next
+pub up_to_next : (P : ℕ → Type 0) (n : ℕ) → ((j : ℕ) → j < n → P j) → P n → (j : ℕ) → j < n + 1 → P j
+up_to_next P n before here j lt = elim (cases_eq j n) [
+  | inl e ↦ subst P (sym e) here
+  | inr ne ↦ before j (omega (arith, lt, ne))
+]

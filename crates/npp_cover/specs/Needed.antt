@@ -1,10 +1,11 @@
 -- The arcs by which labels have to be extended: extensions by the others cannot win, or are dominated by those by these.
-use Rattle.std.specs.Prelude.{◌≡◌, ◌⊎◌, ℕ, ◌+◌, ◌<◌, ◌≤◌, Bool, true, false, List, [], length, slice_index_or, Option, Some, None, IfSome, All, Contains, ◌==◌, ◌&&◌, ◌||◌, not, nat_lt, if◌then◌else◌}
+use Rattle.std.specs.Prelude.{◌≡◌, ◌⊎◌, ℕ, ◌+◌, ◌<◌, ◌≤◌, Bool, true, false, List, [], length, slice_index_or, Option, Some, None, IfSome, All, Contains, ◌==◌, ◌&&◌, ◌||◌, not, nat_lt, nat_le, if◌then◌else◌}
 use Rattle.npp_net.specs.declared.types.ArcId.{ArcId}
 use Rattle.npp_net.specs.declared.types.NetArc.{NetArc}
 use Rattle.npp_net.specs.Network.{arc_at}
 use Rattle.npp_cover.specs.declared.needed.NeededArc.{NeededArc}
-use Rattle.npp_cover.specs.Fault.{can_win}
+use Rattle.npp_cover.specs.declared.label.Label.{Label}
+use Rattle.npp_cover.specs.Fault.{can_win, is_dominated}
 
 -- for each node a list of arcs
 abbrev pub NeededValue : Type 0
@@ -62,6 +63,19 @@ pub record AreNeededAt (arcs : List NetArc) (onward : ℕ → Option ℕ) (free 
 pub record AreNeeded (arcs : List NetArc) (onward : ℕ → Option ℕ) (free nodes : ℕ) (needed : NeededValue) : Type 0 where
   pub size : length needed ≡ nodes
   pub each : (v : ℕ) → v < nodes → AreNeededAt arcs onward free v (needed_at needed v)
+
+-- the label after this one, by the arc, is dominated even where the arc adds no toll
+abbrev pub IsPassed : List Label → Label → NeededArc → Type 0
+IsPassed labels l e = is_dominated labels e.head l.tolls (l.cost + e.cost) ≡ true
+
+-- whether an arc goes to the head of another and costs no less
+abbrev pub is_past : NeededArc → NeededArc → Bool
+is_past e f = (e.head == f.head) && nat_le e.cost f.cost
+
+-- the same of one that is noted, if there is one
+abbrev pub is_past_noted : Option NeededArc → NeededArc → Bool
+is_past_noted None f = false
+is_past_noted (Some e) f = is_past e f
 
 -- whether an arc makes another needless: toll-free, between the same nodes, and cheaper, or as cheap and the other a toll arc
 -- or later

@@ -19,13 +19,12 @@ ghost use Rattle.npp_leaf.specs.Passes.{Passes, IsOptimal, BoundsWithCuts};
 ghost use Rattle.npp_leaf.specs.FoundTolls.{FindsTolls};
 
 use crate::choice::choice_work;
-use crate::family::{first_choice, is_full};
 use crate::relaxed::family_work;
 use crate::work::LeafWork;
 use npp_cover::Cover;
 use npp_frac::Exact;
 use npp_net::{Instance, Memory};
-use npp_rows::{Allowed, CutRow, PathTable, RelaxationIndex};
+use npp_rows::{Allowed, CutRow, PathTable, RelaxationIndex, first_choice, is_full};
 use std::alloc::Global;
 
 /// The evidence of a node that allows these paths.

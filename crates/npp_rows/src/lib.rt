@@ -37,7 +37,7 @@ mod toll_caps;
 mod undercut;
 mod whole;
 
-pub use allowed::Allowed;
+pub use allowed::{Allowed, first_choice, is_full};
 pub use basic::basic_of;
 pub use choice::inverse;
 pub use cut::{CutFault, CutRow, CutTerm, Derivation};
