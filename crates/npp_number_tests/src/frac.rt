@@ -3,7 +3,9 @@
 ghost use Rattle.std.specs.Prelude.{◌≢◌, ◌<ℤ◌, pos};
 
 use npp_frac::{Exact, Frac32, Frac64, Frac128, Op, apply_at_both, parse_fraction, print_fraction};
+use std::alloc::Global;
 use std::cmp::Ordering;
+use std::test::Fail;
 
 /// The numerator and the denominator.
 fn parts<N: Exact>(value: N) -> (i128, i128) {
@@ -39,9 +41,8 @@ fn worked<N: Exact>() -> Option<([(i128, i128); 6], Ordering)> {
 fn works_at_each_width(rt: HostRuntime) {
     let numbers = [(-1, 3), (-1, 3), (1, 6), (5, 6), (-1, 6), (-1, 1)];
     let want = Some((numbers, Ordering::Less));
-    assert_eq!(rt; worked::<Frac32>(), want);
-    assert_eq!(rt; worked::<Frac64>(), want);
-    assert_eq!(rt; worked::<Frac128>(), want);
+    let got = [worked::<Frac32>(), worked::<Frac64>(), worked::<Frac128>()];
+    assert_eq!(rt; got, [want; 3]);
 }
 
 /// The operation on 1 over a denominator and on a number over a denominator, at 32 bits and at 128.
@@ -63,80 +64,89 @@ fn at_two_widths(op: Op, left: i64, right: (i64, i64)) -> Option<[Option<(i128, 
 
 #[test]
 fn refuses_by_the_rule(rt: HostRuntime) {
-    assert_eq!(rt;
+    let got = [
         at_two_widths(Op::Mul, 2, (2, 3)),
-        Some([Some((1, 3)), Some((1, 3))])
-    );
-    assert_eq!(rt;
         at_two_widths(Op::Add, 65536, (1, 65535)),
-        Some([None, Some((131_071, 4_294_901_760))])
-    );
+    ];
+    let want = [
+        Some([Some((1, 3)), Some((1, 3))]),
+        Some([None, Some((131_071, 4_294_901_760))]),
+    ];
+    assert_eq!(rt; got, want);
     let (most, one) = (Frac32::of_whole(2_147_483_647), Frac32::of_whole(1));
-    let Err(overflow) = most.add(one) else {
-        return assert!(rt; false, "2147483647 + 1 fits 32 bits");
-    };
-    assert_eq!(rt; overflow.op, Op::Add);
-    assert_eq!(rt; parts(overflow.left), (2_147_483_647, 1));
-    assert_eq!(rt; parts(overflow.right), (1, 1));
+    let refused = most.add(one).err();
+    let told = refused.map(|x| (x.op, parts(x.left), parts(x.right)));
+    assert_eq!(rt; told, Some((Op::Add, (2_147_483_647, 1), (1, 1))));
+}
+
+/// Two fractions by their texts, and their order.
+const ORDERS: &[(&str, &str, Ordering)] = &[
+    (
+        "170141183460469231731687303715884105727/170141183460469231731687303715884105726",
+        "170141183460469231731687303715884105726/170141183460469231731687303715884105725",
+        Ordering::Less,
+    ),
+    ("-1/3", "-1/2", Ordering::Greater),
+    ("-5", "0", Ordering::Less),
+];
+
+/// The order of two fractions, where both texts are taken.
+fn order(left: &str, right: &str) -> Option<Ordering> {
+    let left = parse_fraction(left.as_bytes())?;
+    let right = parse_fraction(right.as_bytes())?;
+    Some(left.cmp(right))
 }
 
 #[test]
 fn compares_long_fractions(rt: HostRuntime) {
-    let texts = [
-        (
-            "170141183460469231731687303715884105727/170141183460469231731687303715884105726",
-            "170141183460469231731687303715884105726/170141183460469231731687303715884105725",
-            Ordering::Less,
-        ),
-        ("-1/3", "-1/2", Ordering::Greater),
-        ("-5", "0", Ordering::Less),
-    ];
-    for (left, right, want) in texts {
-        let (Some(left), Some(right)) = (
-            parse_fraction(left.as_bytes()),
-            parse_fraction(right.as_bytes()),
-        ) else {
-            return assert!(rt; false, "a fraction text is refused");
-        };
-        assert_eq!(rt; left.cmp(right), want);
+    for (left, right, want) in ORDERS {
+        assert_eq!(rt; order(left, right), Some(*want));
     }
 }
 
+/// Texts that are read, and printed as they stand.
+const PRINTED: &[&str] = &[
+    "0",
+    "8",
+    "-1/3",
+    "170141183460469231731687303715884105727",
+    "-1/170141183460469231731687303715884105727",
+];
+
+/// Texts that are no fractions, or not as they are printed.
+const REFUSED: &[&str] = &[
+    "16/2",
+    "-0",
+    "01",
+    "3/1",
+    "",
+    "-",
+    "+1",
+    "1/",
+    "/2",
+    "0/2",
+    "1/-3",
+    "1/03",
+    "170141183460469231731687303715884105728",
+];
+
+/// What is printed of the fraction of a text.
+fn printed(alloc: Global, text: &str) -> Result<String, Fail> {
+    let value = parse_fraction(text.as_bytes()).ok_or("no fraction")?;
+    Ok(print_fraction(alloc, value)?)
+}
+
 #[test]
-fn reads_what_it_prints(rt: HostRuntime) {
-    for text in [
-        "0",
-        "8",
-        "-1/3",
-        "170141183460469231731687303715884105727",
-        "-1/170141183460469231731687303715884105727",
-    ] {
-        let Some(value) = parse_fraction(text.as_bytes()) else {
-            return assert!(rt; false, "{text} is refused");
-        };
-        let Ok(printed) = print_fraction(rt.alloc(), value) else {
-            return assert!(rt; false, "no memory");
-        };
-        assert_eq!(rt; printed.as_str(), text);
+fn reads_what_it_prints(rt: HostRuntime) -> Result<(), Fail> {
+    for text in PRINTED {
+        let again = printed(rt.alloc(), text)?;
+        assert_eq!(rt; again.as_str(), *text);
     }
-    for text in [
-        "16/2",
-        "-0",
-        "01",
-        "3/1",
-        "",
-        "-",
-        "+1",
-        "1/",
-        "/2",
-        "0/2",
-        "1/-3",
-        "1/03",
-        "170141183460469231731687303715884105728",
-    ] {
+    for text in REFUSED {
         assert!(rt;
             parse_fraction(text.as_bytes()).is_none(),
             "{text} is taken"
         );
     }
+    Ok(())
 }

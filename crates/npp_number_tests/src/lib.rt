@@ -6,4 +6,6 @@ mod frac;
 #[cfg(test)]
 mod lp;
 #[cfg(test)]
+mod numbers;
+#[cfg(test)]
 mod simplex;

@@ -3,7 +3,7 @@ use Rattle.std.proofs.Common.{◌≡◌, ◌≢◌, ℕ, ◌+◌, ◌<◌, ◌�
 use Rattle.npp_frac.specs.Rational.{Rational}
 use Rattle.npp_simplex.specs.Tableau.{Tableau, cell, height, width, with_cells, with_row}
 use Rattle.npp_simplex.proofs.Tables.{table_cell}
-use Rattle.npp_simplex.proofs.InList.{with_same, whole_with}
+use Rattle.npp_simplex.proofs.Grids.{with_same, whole_with}
 
 -- ---- the cells of a tableau in which a row was replaced
 

@@ -12,7 +12,7 @@ use Rattle.npp_simplex.specs.Steps.{is_nonzero, nonzero_columns}
 use Rattle.npp_frac.specs.ZeroLaws.{less_product-zero}
 use Rattle.npp_simplex.proofs.Zeros.{fits_less_product-zero}
 use Rattle.npp_simplex.proofs.Rows.{IsReplacedUpTo, replaced_more, stopped_at}
-use Rattle.npp_simplex.proofs.InList.{at_fits}
+use Rattle.npp_simplex.proofs.Grids.{at_fits}
 use Rattle.npp_simplex.proofs.Nonzero.{IsGap, zero_if, columns_within, first_column, next_column}
 
 -- what the row becomes at a column, and whether it fits

@@ -7,14 +7,20 @@ pub mod FirstPlaces
 pub mod Gathering
 -- ---- the code's table against the tableau of the run
 pub mod Tables
-pub mod InList
+pub mod Grids
 pub mod Changing
 pub mod Reading
+pub mod Lines
 pub mod Rows
 pub mod Starting
 pub mod Comparing
 pub mod Refining
 pub mod Nonzero
+pub mod WordRows
+pub mod CommonForms
+pub mod LineForms
+pub mod WordForms
+pub mod LinePivots
 pub mod Eliminating
 pub mod Pivoting
 pub mod Clearing

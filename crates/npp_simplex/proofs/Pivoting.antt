@@ -9,7 +9,7 @@ use Rattle.npp_simplex.specs.Tableau.{Tableau, cell, height, width, with_row, di
 use Rattle.npp_simplex.specs.Places.{column_unless, fits_less_product, in_row}
 use Rattle.npp_simplex.specs.Steps.{row_division_stop, row_reduction_stop, whole_row_stop, whole_pivot_stop}
 use Rattle.npp_simplex.proofs.FirstPlaces.{first_below_same}
-use Rattle.npp_simplex.proofs.InList.{whole_with}
+use Rattle.npp_simplex.proofs.Grids.{whole_with}
 use Rattle.npp_simplex.proofs.Changing.{IsChangedUpTo, unchanged, row_here, row_other, row_passed, row_replaced, all_changed}
 
 -- where a row other than r stops

@@ -1,20 +1,18 @@
 -- The first tableau, number by number.
-use Rattle.std.proofs.Common.{◌≡◌, ◌≢◌, ℕ, zero, suc, ◌+◌, ◌-◌, ◌*◌, ◌<◌, ◌≤◌, List, [], ◌∷◌, ◌++◌, map, length, get_or, true, false, cond, nat_eq, nat_lt, pos, negsuc, arith, ap, ap₂, sym, ◌∙◌, refl, inl, inr, eq-eqb, ne_eqb, eq-or-lt_of_le, ◌||◌}
-use Rattle.std.specs.List.{range_with_len, list_any}
-use Rattle.std.proofs.lemmas.List.{length-append, get_or_append_left, get_or-append_right}
-use Rattle.std.proofs.lemmas.List.FromFn.{length-map-range_with_len, get_or-map-range_with_len}
+use Rattle.std.proofs.Common.{◌≡◌, ◌≢◌, ℕ, ◌+◌, ◌<◌, ◌≤◌, List, [], ◌∷◌, map, length, get_or, true, false, cond, nat_eq, nat_lt, pos, negsuc, arith, ap, sym, ◌∙◌, refl, eq-eqb, ne_eqb, ◌||◌}
+use Rattle.std.specs.List.{list_any}
 use Rattle.std.proofs.lemmas.Bool.Decides.{nat_tests}
 use Rattle.npp_frac.specs.Gcd.{gcd, gcd_within}
 use Rattle.npp_frac.specs.Rational.{Rational, whole, ratio, zero_ℚ, one_ℚ, negative, is_less}
 use Rattle.npp_lp.specs.declared.program.Entry.{Entry}
 use Rattle.npp_lp.specs.ProgramOver.{RowOver, ProgramOver, lists_of, rights_of}
-use Rattle.npp_lp.specs.Programs.{LinearProgram, at}
+use Rattle.npp_lp.specs.Programs.{LinearProgram}
 use Rattle.npp_lp.specs.Duals.{coefficient}
 use Rattle.npp_lp.specs.Meaning.{terms_of, row_meant, linear_program, IsProgram}
 use Rattle.npp_lp.specs.ReadingLaws.{length-rows_of, length-rights_of, terms_of_row, right_of_row}
-use Rattle.npp_simplex.specs.Tableau.{cell, table}
+use Rattle.npp_simplex.specs.Tableau.{cell}
 use Rattle.npp_simplex.specs.Run.{has_phase_one, first_cell, first_tableau}
-use Rattle.npp_simplex.proofs.Tables.{place_in_table, table_same, table_cell, at_read}
+use Rattle.npp_simplex.proofs.Tables.{table_cell, at_read}
 
 pub lt_true : (a b : ℕ) → a < b → nat_lt a b ≡ true
 lt_true a b l = grind (arith, nat_tests)
@@ -46,38 +44,6 @@ module _ {N : Type 0} (value : N → Rational) where
       let other : nat_eq j (p.columns + length (linear_program value p).rows) ≡ false = ne_eqb j (p.columns + length (linear_program value p).rows) (λ e. omega arith) in
       let size : length (rights_of p) ≡ length p.rows = length-rights_of value p in
       sym (at_read value (rights_of p) i x (omega arith) is) ∙ sym (right_of_row value p i) ∙ sym (rw (inside, no, none, other) refl)
-
--- ---- the rows of a table, one after the other
-
--- the numbers of the first n rows
-abbrev pub rows_from : (ℕ → ℕ → Rational) → ℕ → ℕ → List Rational
-rows_from f w zero = []
-rows_from f w (suc n) = rows_from f w n ++ map (f n) (range_with_len 0 w)
-
-pub length-rows_from : (f : ℕ → ℕ → Rational) (w n : ℕ) → length (rows_from f w n) ≡ n * w
-length-rows_from f w zero = omega arith
-length-rows_from f w (suc n) = length-append (rows_from f w n) (map (f n) (range_with_len 0 w)) ∙ omega (arith, length-rows_from f w n, length-map-range_with_len (f n) 0 w)
-
-number_at : (f : ℕ → ℕ → Rational) (w n i j : ℕ) → i < n → j < w → at (rows_from f w n) (i * w + j) ≡ f i j
-number_at f w zero i j l k = absurd (omega arith)
-number_at f w (suc n) i j l k =
-    let size : length (rows_from f w n) ≡ n * w = length-rows_from f w n in
-    elim (eq-or-lt_of_le (let le : i ≤ n = omega arith in le)) [
-      | inl same ↦
-          get_or-append_right (rows_from f w n) (map (f n) (range_with_len 0 w)) (n * w) (i * w + j) zero_ℚ size (let e : i * w ≡ n * w = ap (λ z. z * w) same in omega arith)
-          ∙ ap (at (map (f n) (range_with_len 0 w))) (let e : i * w ≡ n * w = ap (λ z. z * w) same in let d : i * w + j - n * w ≡ j = omega arith in d)
-          ∙ get_or-map-range_with_len (f n) 0 w j j zero_ℚ k (omega arith) ∙ ap (λ z. f z j) (sym same)
-      | inr less ↦
-          get_or_append_left (rows_from f w n) (map (f n) (range_with_len 0 w)) zero_ℚ (i * w + j) (omega (arith, size, place_in_table i j n w less k)) ∙ number_at f w n i j less k
-    ]
-
--- the list of a table is made of its rows
-pub made_of_rows : {N : Type 0} (v : N → Rational) (m n : ℕ) (xs : List N) (p : LinearProgram) → m ≡ length p.rows → n ≡ p.columns → map v xs ≡ rows_from (first_cell p) (n + m + 2) (m + 2)
-    → record { rows = m; columns = n; cells = table (m + 2) (n + m + 2) (λ i j. at (map v xs) (i * (n + m + 2) + j)) } ≡ first_tableau p
-made_of_rows v m n xs p e f h =
-    ap (λ t. record { rows = m; columns = n; cells = t }) (table_same (m + 2) (n + m + 2) (λ i j. at (map v xs) (i * (n + m + 2) + j)) (first_cell p) (λ i j l k.
-    ap (λ z. at z (i * (n + m + 2) + j)) h ∙ number_at (first_cell p) (n + m + 2) (m + 2) i j l k))
-    ∙ ap₂ (λ m n. record { rows = m; columns = n; cells = table (m + 2) (n + m + 2) (first_cell p) }) e f
 
 -- ---- phase one can begin
 

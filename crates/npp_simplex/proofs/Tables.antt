@@ -1,17 +1,10 @@
--- Tables, and the lists in which they lie row after row.
-use Rattle.std.proofs.Common.{◌≡◌, ℕ, zero, suc, ◌+◌, ◌*◌, ◌<◌, ◌≤◌, List, [], ◌∷◌, map, length, get_or, arith, ap, ap₂, sym, ◌∙◌, refl, add-one}
+-- Tables, cell by cell.
+use Rattle.std.proofs.Common.{◌≡◌, ℕ, zero, suc, ◌+◌, ◌<◌, ◌≤◌, List, [], ◌∷◌, map, length, get_or, arith, ap, ap₂, sym, ◌∙◌, refl, add-one}
 use Rattle.std.specs.List.{range_with_len}
 use Rattle.std.proofs.lemmas.List.FromFn.{get_or-map-range_with_len}
-use Rattle.std.proofs.Math.Nat.{mul-le-mul_right}
 use Rattle.npp_frac.specs.Rational.{Rational, zero_ℚ}
 use Rattle.npp_lp.specs.Programs.{at}
 use Rattle.npp_simplex.specs.Tableau.{table}
-
-pub row_in_table : (i h w : ℕ) → i < h → i * w + w ≤ h * w
-row_in_table i h w l = let k : suc i * w ≤ h * w = mul-le-mul_right w l in omega (arith, k)
-
-pub place_in_table : (i j h w : ℕ) → i < h → j < w → i * w + j < h * w
-place_in_table i j h w l k = omega (arith, row_in_table i h w l)
 
 pub table_cell : (h w : ℕ) (f : ℕ → ℕ → Rational) (i j : ℕ) → i < h → j < w → at (get_or (table h w f) i []) j ≡ f i j
 table_cell h w f i j a b =

@@ -15,7 +15,7 @@ use Rattle.npp_simplex.specs.declared.place.Place.{Place}
 use Rattle.npp_simplex.specs.Tableau.{Tableau, cell, extra_column, pivoted}
 use Rattle.npp_simplex.specs.Ratio.{entering, candidates, positive_rows, keys, leaving}
 use Rattle.npp_simplex.specs.Places.{ratio_stop, pivot_stop, first_stop, remaining, pivot_row}
-use Rattle.npp_simplex.specs.Run.{State, Next, PivotOn, chosen_row, chosen_column, next, stage_when_leaves, stage_after, handed_on, state_after, Overflow, stepped, turned, run_from}
+use Rattle.npp_simplex.specs.Run.{State, Next, PivotOn, chosen_row, chosen_column, next, stage_when_leaves, stage_after, handed_on, state_after, Overflow, Capped, finished, stepped, turned, run_from}
 use Rattle.npp_simplex.specs.Meaning.{AreCandidates}
 use Rattle.npp_simplex.specs.Standing.{IsReadyFor}
 use Rattle.npp_simplex.proofs.Refining.{or_else_none}
@@ -116,3 +116,11 @@ module _ (limit : Option ℕ) (x : State) (made : ℕ) where
   -- a column enters
   pub next_by : (c : ℕ) → entering x.stage x.tableau ≡ Some c → next x ≡ chosen_row x.stage x.tableau c (candidates x.stage x.tableau c)
   next_by c e = ap (chosen_column x.stage x.tableau) e
+
+  row_capped : (c : ℕ) (rows : List ℕ) → 0 < length rows → Capped ≡ finished x made (chosen_row x.stage x.tableau c rows)
+  row_capped c [] l = absurd (omega arith)
+  row_capped c (i ∷ rows) l = refl
+
+  -- a row may leave, and no pivot is left
+  pub run_capped : (c : ℕ) → entering x.stage x.tableau ≡ Some c → 0 < length (candidates x.stage x.tableau c) → Capped ≡ finished x made (next x)
+  run_capped c e l = row_capped c (candidates x.stage x.tableau c) l ∙ sym (ap (finished x made) (next_by c e))

@@ -1,16 +1,13 @@
 -- Taking a multiple of 0, or 0 times a number, fits every width.
-use Rattle.std.proofs.Common.{◌≡◌, ℕ, ◌<◌, Bool, true, false, ◌&&◌, None, ap, sym}
+use Rattle.std.proofs.Common.{◌≡◌, ℕ, Bool, true, false, ◌&&◌}
 use Rattle.npp_frac.specs.Rational.{Rational, zero_ℚ}
 use Rattle.npp_frac.specs.Ring.{zero-*ℚ, *ℚ-zero}
 use Rattle.npp_frac.specs.Fits.{FitsBelow, IsWidth, limit_of}
 use Rattle.npp_frac.specs.FitsLaws.{fits_mul_yes}
 use Rattle.npp_frac.specs.ZeroLaws.{FitsMul-zero_left, FitsMul-zero_right, fits_sub-zero_right, wide_enough}
-use Rattle.npp_lp.specs.VerdictLaws.{first_below_clear}
-use Rattle.npp_simplex.specs.Tableau.{Tableau, cell, width, height}
-use Rattle.npp_simplex.specs.Places.{column_unless, fits_less_product}
-use Rattle.npp_simplex.specs.Steps.{row_reduction_stop}
+use Rattle.npp_simplex.specs.Places.{fits_less_product}
 
-both_true : (a b : Bool) → true ≡ a → true ≡ b → true ≡ (a && b)
+pub both_true : (a b : Bool) → true ≡ a → true ≡ b → true ≡ (a && b)
 both_true true b e f = f
 both_true false b e f = cc
 
@@ -23,9 +20,3 @@ fits_less_product-zero w x y z wide h e =
 pub fits_less_zero_product : (w : ℕ) (x y z : Rational) → IsWidth w → FitsBelow (limit_of w) x → y ≡ zero_ℚ → true ≡ fits_less_product (limit_of w) x y z
 fits_less_zero_product w x y z wide h e =
     rw e (rw (zero-*ℚ z) (both_true _ _ (fits_mul_yes (limit_of w) zero_ℚ z (FitsMul-zero_left (limit_of w) z (wide_enough w wide))) (fits_sub-zero_right (limit_of w) x h)))
-
--- a row whose entry in the column is 0 loses nothing, and everything fits
-pub zero_stop : (w : ℕ) → IsWidth w → (t : Tableau) (c : ℕ) (d : ℕ → Rational) (i : ℕ) → ((j : ℕ) → i < height t → j < width t → FitsBelow (limit_of w) (cell t i j)) → i < height t → cell t i c ≡ zero_ℚ → None ≡ row_reduction_stop (limit_of w) t c d i
-zero_stop w wide t c d i fits l none =
-    sym (first_below_clear (λ j. column_unless (fits_less_product (limit_of w) (cell t i j) (cell t i c) (d j)) j) (width t) (λ j k.
-    ap (λ b. column_unless b j) (sym (fits_less_zero_product w (cell t i j) (cell t i c) (d j) wide (fits j l k) none))))

@@ -5,6 +5,7 @@ pub mod Steps
 pub mod Vectors
 pub mod Run
 pub mod Layout
+pub mod CommonForm
 pub mod Meaning
 pub mod Standing
 pub mod Turns

@@ -10,6 +10,7 @@ use Rattle.npp_simplex.specs.Tableau.{Tableau, cell, extra_column}
 pub record IsRoom {N : Type 0} (m n : ℕ) (r : Room N) : Type 0 where
   pub candidates : length r.candidates.items ≡ m
   pub numbers : length r.numbers.items ≡ n + m + 2
+  pub divided : length r.divided ≡ n + m + 2
   pub columns : length r.columns.items ≡ n + m + 2
 
 -- the goal row of phase one and the extra column hold 0

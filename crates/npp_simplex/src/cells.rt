@@ -7,7 +7,7 @@ ghost use Rattle.npp_simplex.specs.Ratio.{rising_column as rising_column_of, ent
 
 use crate::stage::Stage;
 use crate::tableau::Tableau;
-use npp_frac::{Exact, is_positive};
+use npp_frac::Exact;
 
 /// Writes the number of each row into a list.
 pub fn all_rows(list: &mut [u32])
@@ -28,7 +28,7 @@ impl<N: Exact> Tableau<N> {
     {
         let shape = self.shape();
         for j in 0..shape.extra() {
-            if is_positive(self.entry(goal, j)) {
+            if self.is_positive(goal, j) {
                 return Some(j as u32);
             }
         }
@@ -58,7 +58,7 @@ impl<N: Exact> Tableau<N> {
         let shape = self.shape();
         let mut count = 0;
         for i in 0..shape.rows {
-            if is_positive(self.entry(i, column)) {
+            if self.is_positive(i, column) {
                 list[count] = i as u32;
                 count += 1;
             }

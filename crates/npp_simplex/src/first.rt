@@ -6,6 +6,7 @@ ghost use Rattle.npp_frac.specs.Rational.{zero_ℚ, one_ℚ, negative};
 ghost use Rattle.npp_lp.specs.Meaning.{linear_program, IsProgram};
 ghost use Rattle.npp_simplex.specs.Run.{has_phase_one, extra_entry as extra_entry_of, first_cell, first_tableau};
 
+use crate::line::Line;
 use crate::numbers::{minus_one, one, zero};
 use crate::shape::Shape;
 use crate::tableau::Tableau;
@@ -112,6 +113,25 @@ pub fn push_row<N: Exact>(
     Ok(())
 }
 
+/// A row of the first tableau.
+pub fn first_line<N: Exact>(
+    alloc: Global,
+    shape: Shape,
+    program: &Program<N>,
+    i: usize,
+    extra: N,
+) -> Result<Line<N>, Memory>
+    requires program { IsProgram N.rational program.now }
+    requires rows { shape.rows ≡ length program.now.rows }
+    requires columns { shape.columns ≡ program.now.columns }
+    requires extra { N.rational extra ≡ extra_entry_of (linear_program N.rational program.now) }
+    ensures { IfOk result (λ line. line ≡ map (first_cell (linear_program N.rational program.now) i) (range_with_len 0 (shape.columns + shape.rows + 2))) }
+{
+    let mut cells = Vec::new(alloc);
+    push_row(&mut cells, shape, program, i, extra)?;
+    Line::of(alloc, cells)
+}
+
 impl<N: Exact> Tableau<N> {
     /// The first tableau of a program of this size.
     pub fn first(
@@ -127,10 +147,14 @@ impl<N: Exact> Tableau<N> {
         ensures { IfOk result (λ tableau. tableau ≡ first_tableau (linear_program N.rational program.now)) }
     {
         let extra = extra_entry(phase_one);
-        let mut cells = Vec::new(alloc);
+        let mut lines = Vec::new(alloc);
         for i in 0..shape.height() {
-            push_row(&mut cells, shape, program, i, extra)?;
+            let line = first_line(alloc, shape, program, i, extra)?;
+            match lines.push(line) {
+                Ok(()) => {}
+                Err(_) => return Err(Memory),
+            }
         }
-        Ok(Tableau { shape, cells })
+        Ok(Tableau { shape, lines })
     }
 }

@@ -6,7 +6,10 @@ mod cells;
 mod clear;
 mod ends;
 mod first;
+mod forms;
 mod laws;
+mod line;
+mod line_pivot;
 mod numbers;
 mod pivot;
 mod place;
@@ -19,6 +22,7 @@ mod solver;
 mod stage;
 mod tableau;
 mod vectors;
+mod words;
 
 pub use answer::Answer;
 pub use laws::{narrow_run_is_each_wider_run, no_basis_comes_twice, phase_two_reads_no_extra};

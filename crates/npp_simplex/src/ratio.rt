@@ -9,7 +9,7 @@ ghost use Rattle.npp_simplex.specs.Ratio.{compared as compared_of, keys, least_r
 ghost use Rattle.npp_simplex.specs.Places.{quotient_fits, quotients_stop, remaining};
 ghost use Rattle.npp_simplex.specs.Meaning.{IsCandidate, AreCandidates, IsLeastOf, rows_up_to};
 
-use crate::numbers::{lesser, quotient};
+use crate::numbers::lesser;
 use crate::place::{Place, Step};
 use crate::stage::{EnteringColumn, Stage};
 use crate::tableau::Tableau;
@@ -28,11 +28,10 @@ pub fn compared<N: Exact>(
     ensures fits { is_some result ≡ quotient_fits (Some (limit_of N.WIDTH)) entering.stage tableau.now entering.column key row }
     ensures exact { IfSome result (λ q. N.rational q ≡ compared_of entering.stage tableau.now entering.column key row) }
 {
-    let entry = tableau.entry(row, key);
     match entering.stage {
-        Stage::Entry => Some(entry),
-        Stage::PhaseOne => quotient(entry, tableau.entry(row, entering.column)),
-        Stage::PhaseTwo => quotient(entry, tableau.entry(row, entering.column)),
+        Stage::Entry => Some(tableau.entry(row, key)),
+        Stage::PhaseOne => tableau.quotient(row, key, entering.column),
+        Stage::PhaseTwo => tableau.quotient(row, key, entering.column),
     }
 }
 

@@ -4,6 +4,7 @@ ghost use Rattle.std.specs.Prelude.{◌≡◌, ◌+◌, ◌^◌, ◌<◌, length
 ghost use Rattle.std.specs.List.{range_with_len};
 ghost use Rattle.npp_simplex.specs.Standing.{IsRoom};
 
+use crate::line::Line;
 use crate::numbers::zero;
 use crate::shape::Shape;
 use npp_frac::{Exact, Memory};
@@ -11,11 +12,13 @@ use std::alloc::Global;
 
 /// Room for the lists of a pivot. No pivot takes more memory than this.
 #[derive(Drop)]
-pub struct Room<N> {
+pub struct Room<N: Exact> {
     /// The rows that may leave the basis.
     pub candidates: Vec<u32>,
-    /// A row of the tableau, or what the candidates are compared by.
+    /// What the candidates are compared by.
     pub numbers: Vec<N>,
+    /// A row of the tableau.
+    pub divided: Line<N>,
     /// Columns of the tableau.
     pub columns: Vec<u32>,
 }
@@ -57,9 +60,12 @@ impl<N: Exact> Room<N> {
         let candidates = numbers_from(alloc, 0, shape.rows)?;
         let numbers = zeros(alloc, shape.width())?;
         let columns = numbers_from(alloc, 0, shape.width())?;
+        let fractions = zeros(alloc, shape.width())?;
+        let divided = Line::of(alloc, fractions)?;
         Ok(Room {
             candidates,
             numbers,
+            divided,
             columns,
         })
     }

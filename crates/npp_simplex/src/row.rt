@@ -1,6 +1,6 @@
 //! The numbers of one row.
 
-ghost use Rattle.std.specs.Prelude.{◌≡◌, ◌≢◌, ℕ, ◌<◌, ◌≤◌, ◌^◌, length, take, map, is_some, IfSome, IfNone};
+ghost use Rattle.std.specs.Prelude.{◌≡◌, ◌≢◌, ℕ, ◌<◌, ◌^◌, length, map, is_some, IfSome, IfNone};
 ghost use Rattle.npp_frac.specs.Rational.{zero_ℚ, ◌-ℚ◌, ◌*ℚ◌, ◌/ℚ◌};
 ghost use Rattle.npp_frac.specs.Fits.{limit_of, fits_div};
 ghost use Rattle.npp_lp.specs.Programs.{at};
@@ -8,8 +8,9 @@ ghost use Rattle.npp_lp.specs.Verdict.{first_below};
 ghost use Rattle.npp_simplex.specs.Places.{column_unless, fits_less_product};
 ghost use Rattle.npp_simplex.specs.Steps.{nonzero_columns as nonzero_columns_of};
 
+use crate::line::Line;
 use crate::numbers::{quotient, zero};
-use npp_frac::{Exact, is_zero};
+use npp_frac::Exact;
 
 /// A number less the product of two, where both the product and the difference fit.
 pub fn less_product<N: Exact>(number: N, factor: N, other: N) -> Option<N>
@@ -41,37 +42,25 @@ pub fn divide<N: Exact>(row: &mut [N], divisor: N) -> Option<u32>
     None
 }
 
-/// Writes the columns at which a row is not 0 into a list, and tells how many they are.
-pub fn nonzero_columns<N: Exact>(row: &[N], columns: &mut [u32]) -> usize
-    requires short { length row.now < 2 ^ 32 }
-    requires room { length columns.old ≡ length row.now }
-    ensures within { result ≤ length row.now }
-    ensures columns { take result columns.new ≡ nonzero_columns_of (at (map N.rational row.now)) (length row.now) }
-{
-    let mut count = 0;
-    for j in 0..row.len() {
-        if !is_zero(row[j]) {
-            columns[count] = j as u32;
-            count += 1;
-        }
-    }
-    count
-}
-
 /// Takes a multiple of another row from a row, up to the first number that does not fit, whose column it answers.
 /// The columns are those at which the other row is not 0: elsewhere nothing changes. It is not inlined, so that its loop
 /// has the registers for itself.
 #[inline(never)]
-pub fn eliminate<N: Exact>(row: &mut [N], factor: N, other: &[N], columns: &[u32]) -> Option<u32>
+pub fn eliminate<N: Exact>(
+    row: &mut [N],
+    factor: N,
+    other: &Line<N>,
+    columns: &[u32],
+) -> Option<u32>
     requires lengths { length other.now ≡ length row.old }
-    requires columns { columns.now ≡ nonzero_columns_of (at (map N.rational other.now)) (length row.old) }
-    ensures stop { result ≡ first_below (length row.old) (λ j. column_unless (fits_less_product (limit_of N.WIDTH) (at (map N.rational row.old) j) (N.rational factor) (at (map N.rational other.now) j)) j) }
-    ensures reduced { IfNone result ((j : ℕ) → j < length row.old → at (map N.rational row.new) j ≡ at (map N.rational row.old) j -ℚ N.rational factor *ℚ at (map N.rational other.now) j) }
+    requires columns { columns.now ≡ nonzero_columns_of (at other.now) (length row.old) }
+    ensures stop { result ≡ first_below (length row.old) (λ j. column_unless (fits_less_product (limit_of N.WIDTH) (at (map N.rational row.old) j) (N.rational factor) (at other.now j)) j) }
+    ensures reduced { IfNone result ((j : ℕ) → j < length row.old → at (map N.rational row.new) j ≡ at (map N.rational row.old) j -ℚ N.rational factor *ℚ at other.now j) }
 {
     for s in 0..columns.len() {
         let column = columns[s];
         let j = column as usize;
-        match less_product(row[j], factor, other[j]) {
+        match less_product(row[j], factor, other.number(j)) {
             Some(difference) => row[j] = difference,
             None => return Some(column),
         }

@@ -99,13 +99,14 @@ pub fn pivot_on<N: Exact>(
 {
     let candidates = room.candidates.as_mut_slice();
     let numbers = room.numbers.as_mut_slice();
+    let divided = &mut room.divided;
     let columns = room.columns.as_mut_slice();
     let count = tableau.candidates(entering.stage, entering.column, candidates);
     if count == 0 {
         return Ok(None);
     }
     match leaving_of_first(tableau, entering, candidates, count, numbers) {
-        Ok(row) => match tableau.pivot(row as usize, entering.column, numbers, columns) {
+        Ok(row) => match tableau.pivot(row as usize, entering.column, divided, columns) {
             Some(place) => Err(place),
             None => Ok(Some(row)),
         },

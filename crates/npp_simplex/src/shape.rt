@@ -1,6 +1,6 @@
-//! How a tableau lies in memory.
+//! The size of a tableau.
 
-ghost use Rattle.std.specs.Prelude.{◌≡◌, ◌+◌, ◌*◌, ◌^◌, ◌<◌, ◌≤◌};
+ghost use Rattle.std.specs.Prelude.{◌≡◌, ◌+◌, ◌^◌, ◌<◌};
 
 /// The size of a program. Its tableau has two more rows, the goal rows, and its columns are those of
 /// the program, a slack for each row, the extra column of phase one and the right side.
@@ -40,17 +40,5 @@ impl Shape {
         ensures { result ≡ self.columns + self.rows + 1 }
     {
         self.columns + self.rows + 1
-    }
-
-    /// Where a number stands in the list.
-    pub fn place(self, row: usize, column: usize) -> usize
-        requires row { row < self.rows + 2 }
-        requires column { column < self.columns + self.rows + 2 }
-        ensures place { result ≡ row * (self.columns + self.rows + 2) + column }
-        ensures within { result < (self.rows + 2) * (self.columns + self.rows + 2) }
-        ensures row_within { row * (self.columns + self.rows + 2) + (self.columns + self.rows + 2) ≤ (self.rows + 2) * (self.columns + self.rows + 2) }
-        ensures small { (self.rows + 2) * (self.columns + self.rows + 2) < 2 ^ 63 }
-    {
-        row * self.width() + column
     }
 }

@@ -1,38 +1,36 @@
 //! The tableau: a table of exact numbers.
 
-ghost use Rattle.std.specs.Prelude.{◌≡◌, ◌≢◌, ℕ, ◌<◌, length, map, IfNone};
-ghost use Rattle.npp_frac.specs.Rational.{zero_ℚ, ◌-ℚ◌, ◌*ℚ◌};
-ghost use Rattle.npp_frac.specs.Fits.{limit_of};
+ghost use Rattle.std.specs.Prelude.{◌≡◌, ◌≢◌, ℕ, ◌<◌, length, is_some, IfSome, IfNone};
+ghost use Rattle.npp_frac.specs.Rational.{zero_ℚ, is_less, ◌-ℚ◌, ◌*ℚ◌, ◌/ℚ◌};
+ghost use Rattle.npp_frac.specs.Fits.{limit_of, fits_div};
 ghost use Rattle.npp_lp.specs.Programs.{at};
 ghost use Rattle.npp_simplex.specs.Tableau.{cell, height, width, with_row, divided_cell, cell_without_extra};
 ghost use Rattle.npp_simplex.specs.Steps.{nonzero_columns as nonzero_columns_of, row_division_stop, row_reduction_stop};
 
-use crate::numbers::zero;
-use crate::row::{clear, divide, eliminate};
+use crate::line::Line;
 use crate::shape::Shape;
-use npp_frac::{Exact, is_zero};
+use npp_frac::Exact;
 use std::marker::Model;
 
-/// A tableau. Contracts see it as the table of rational numbers for which it stands. That it lies in memory as one list, row
-/// after row, is seen here and where the first one is made.
+/// A tableau. Contracts see it as the table of rational numbers for which it stands. How a row lies in memory is seen in the
+/// row alone.
 #[derive(Drop)]
 pub struct Tableau<N: Exact> {
     /// Its size.
     pub shape: Shape,
-    /// Its numbers.
-    pub cells: Vec<N>,
+    /// Its rows.
+    pub lines: Vec<Line<N>>,
 }
 
 impl<N: Exact> Model for Tableau<N> {
-    ghost use Rattle.std.specs.Prelude.{◌≡◌, length};
     ghost use Rattle.npp_simplex.specs.Tableau.{Tableau as Table};
-    ghost use Rattle.npp_simplex.specs.Layout.{tableau_of, cell_count};
+    ghost use Rattle.npp_simplex.specs.Layout.{tableau_of, IsGrid};
 
     ghost Value = { Table };
 
-    ghost view = { λ a. tableau_of N.rational a.shape a.cells.items };
+    ghost view = { λ a. tableau_of a.shape a.lines.items };
 
-    ghost invariant = { λ a. length a.cells.items ≡ cell_count a.shape };
+    ghost invariant = { λ a. IsGrid a.shape a.lines.items };
 }
 
 impl<N: Exact> Tableau<N> {
@@ -50,19 +48,42 @@ impl<N: Exact> Tableau<N> {
         requires column { column < width self.now }
         ensures { N.rational result ≡ cell self.now row column }
     {
-        let cells = self.cells.as_slice();
-        cells[self.shape.place(row, column)]
+        let line = &self.lines[row];
+        line.number(column)
     }
 
-    /// The numbers of a row.
-    pub fn row(&self, row: usize) -> &[N]
-        requires { row < height self.now }
-        ensures length { length result.now ≡ width self.now }
-        ensures numbers { (j : ℕ) → j < width self.now → at (map N.rational result.now) j ≡ cell self.now row j }
+    /// Whether the number in a row and a column is above 0.
+    pub fn is_positive(&self, row: usize, column: usize) -> bool
+        requires row { row < height self.now }
+        requires column { column < width self.now }
+        ensures { result ≡ is_less zero_ℚ (cell self.now row column) }
     {
-        let start = self.shape.place(row, 0);
-        let end = start + self.shape.width();
-        &self.cells.as_slice()[start..end]
+        let line = &self.lines[row];
+        line.is_positive(column)
+    }
+
+    /// The quotient of two numbers of a row, where it fits.
+    pub fn quotient(&self, row: usize, column: usize, by: usize) -> Option<N>
+        requires row { row < height self.now }
+        requires column { column < width self.now }
+        requires by { by < width self.now }
+        requires divisor { cell self.now row by ≢ zero_ℚ }
+        ensures fits { is_some result ≡ fits_div (limit_of N.WIDTH) (cell self.now row column) (cell self.now row by) }
+        ensures exact { IfSome result (λ q. N.rational q ≡ cell self.now row column /ℚ cell self.now row by) }
+    {
+        let line = &self.lines[row];
+        line.quotient(column, by)
+    }
+
+    /// Copies a row.
+    pub fn copy_row(&self, row: usize, into: &mut Line<N>)
+        requires row { row < height self.now }
+        requires room { length into.old ≡ width self.now }
+        ensures length { length into.new ≡ width self.now }
+        ensures numbers { (j : ℕ) → j < width self.now → at into.new j ≡ cell self.now row j }
+    {
+        let line = &self.lines[row];
+        into.copy_from(line);
     }
 
     /// Divides a row by its entry in a column, up to the first quotient that does not fit, whose column it answers.
@@ -73,11 +94,9 @@ impl<N: Exact> Tableau<N> {
         ensures stop { result ≡ row_division_stop (limit_of N.WIDTH) self.old row column }
         ensures divided { IfNone result (self.new ≡ with_row self.old row (divided_cell self.old row column)) }
     {
-        let divisor = self.entry(row, column);
-        let start = self.shape.place(row, 0);
-        let end = start + self.shape.width();
-        let cells = self.cells.as_mut_slice();
-        divide(&mut cells[start..end], divisor)
+        let _width = self.shape.width();
+        let line = &mut self.lines[row];
+        line.divide(column)
     }
 
     /// Takes the multiple of another row from row `i` that makes its entry in the column 0, up to the first number that does
@@ -86,24 +105,19 @@ impl<N: Exact> Tableau<N> {
         &mut self,
         i: usize,
         column: usize,
-        other: &[N],
+        other: &Line<N>,
         columns: &[u32],
     ) -> Option<u32>
         requires row { i < height self.old }
         requires column { column < width self.old }
         requires other { length other.now ≡ width self.old }
-        requires columns { columns.now ≡ nonzero_columns_of (at (map N.rational other.now)) (width self.old) }
-        ensures stop { result ≡ row_reduction_stop (limit_of N.WIDTH) self.old column (at (map N.rational other.now)) i }
-        ensures reduced { IfNone result (self.new ≡ with_row self.old i (λ j. cell self.old i j -ℚ cell self.old i column *ℚ at (map N.rational other.now) j)) }
+        requires columns { columns.now ≡ nonzero_columns_of (at other.now) (width self.old) }
+        ensures stop { result ≡ row_reduction_stop (limit_of N.WIDTH) self.old column (at other.now) i }
+        ensures reduced { IfNone result (self.new ≡ with_row self.old i (λ j. cell self.old i j -ℚ cell self.old i column *ℚ at other.now j)) }
     {
-        let factor = self.entry(i, column);
-        let start = self.shape.place(i, 0);
-        let end = start + self.shape.width();
-        if is_zero(factor) {
-            return None;
-        }
-        let cells = self.cells.as_mut_slice();
-        eliminate(&mut cells[start..end], factor, other, columns)
+        let _width = self.shape.width();
+        let line = &mut self.lines[i];
+        line.reduce(column, other, columns)
     }
 
     /// Sets the number of the extra column to 0 in a row, and each number where it is the goal row of phase one.
@@ -112,14 +126,11 @@ impl<N: Exact> Tableau<N> {
         ensures { self.new ≡ with_row self.old i (cell_without_extra self.old i) }
     {
         let shape = self.shape;
-        let start = shape.place(i, 0);
-        let end = start + shape.width();
-        let cells = self.cells.as_mut_slice();
-        let row = &mut cells[start..end];
+        let line = &mut self.lines[i];
         if i == shape.rows {
-            clear(row);
+            line.clear();
         } else {
-            row[shape.extra()] = zero();
+            line.clear_at(shape.extra());
         }
     }
 }

@@ -11,5 +11,5 @@ abbrev pub invariant-loop-s : goal.invariant-loop-s
 invariant-loop-s g l = record {
   size : length l.row ≡ length l.initial.row;
   within : All (λ j. j < length l.initial.row) l.columns;
-  replaced : IsReplacedUpTo g.N.Exact.rational l.initial.row l.row (λ k. at (map g.N.Exact.rational l.initial.row) k -ℚ g.N.Exact.rational l.factor *ℚ at (map g.N.Exact.rational l.other) k) (λ k. fits_less_product (limit_of g.N.Exact.WIDTH) (at (map g.N.Exact.rational l.initial.row) k) (g.N.Exact.rational l.factor) (at (map g.N.Exact.rational l.other) k)) (slice_index_or l.columns l.s (length l.initial.row));
+  replaced : IsReplacedUpTo g.N.Exact.rational l.initial.row l.row (λ k. at (map g.N.Exact.rational l.initial.row) k -ℚ g.N.Exact.rational l.factor *ℚ at l.other k) (λ k. fits_less_product (limit_of g.N.Exact.WIDTH) (at (map g.N.Exact.rational l.initial.row) k) (g.N.Exact.rational l.factor) (at l.other k)) (slice_index_or l.columns l.s (length l.initial.row));
 }

@@ -1,12 +1,12 @@
-use Rattle.std.proofs.Common.{ap, refl, arith}
+use Rattle.std.proofs.Common.{ap, arith}
 use Rattle.npp_simplex.specs.Tableau.{cell_without_extra}
-use Rattle.npp_simplex.proofs.InList.{view_whole}
+use Rattle.npp_simplex.proofs.Lines.{whole}
 use Rattle.npp_simplex.proofs.Changing.{unchanged, row_replaced, all_changed}
 use Rattle.npp_simplex.proofs.Clearing.{without_same}
 use Rattle.npp_simplex.proofs.tableau.Tableau.drop_extra.Goals as goal
 
 pub loop-i-init : goal.loop-i-init
-loop-i-init g c = unchanged c.args.self.now (cell_without_extra c.args.self.now) (view_whole g.N.Exact.rational c.self.inside.shape c.self.inside.cells.items c.args.self.now c.self.inside.cells refl c.self.view_is)
+loop-i-init g c = unchanged c.args.self.now (cell_without_extra c.args.self.now) (whole c.self.inside.shape c.self.inside.lines.items c.args.self.now c.self.view_is c.self.invariant)
 
 pub loop-i-preserved : goal.loop-i-preserved
 loop-i-preserved g c =

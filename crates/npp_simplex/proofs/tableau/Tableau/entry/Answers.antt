@@ -1,9 +1,12 @@
-use Rattle.npp_simplex.proofs.InList.{cell_read}
+use Rattle.std.proofs.Common.{arith, ◌∙◌}
+use Rattle.npp_simplex.proofs.Lines.{line_within, line_length, line_cell}
 use Rattle.npp_simplex.proofs.tableau.Tableau.entry.Goals as goal
 
+pub index-line-requires : goal.index-line-requires
+index-line-requires g c = omega (arith, line_within c.self.inside.shape c.self.inside.lines.items c.args.self.now c.self.view_is c.self.invariant c.args.row c.requires.row, c.self.inside.lines.ok.0)
+
+pub number-requires : goal.number-requires
+number-requires g c = omega (arith, line_length c.self.inside.shape c.self.inside.lines.items c.args.self.now c.self.view_is c.self.invariant c.args.row c.index-line.result.now c.requires.row c.index-line.ensures)
+
 pub returns : goal.returns
-returns g c =
-    let v = g.N.Exact.rational in
-    let s = c.self.inside.shape in
-    let xs = c.as_slice-cells.result.now in
-    cell_read v s xs c.args.self.now c.self.inside.cells c.as_slice-cells.ensures.value c.self.view_is c.self.invariant c.args.row c.args.column c.place.result c.index-cells-place.result c.requires.row c.requires.column c.place.ensures.place c.index-cells-place.is
+returns g c = c.number.ensures ∙ line_cell c.self.inside.shape c.self.inside.lines.items c.args.self.now c.self.view_is c.self.invariant c.args.row c.index-line.result.now c.requires.row c.index-line.ensures c.args.column

@@ -1,4 +1,4 @@
-use Rattle.std.proofs.Common.{ℕ, Bool, ap, sym, ◌∙◌, arith}
+use Rattle.std.proofs.Common.{ℕ, Bool, sym, ◌∙◌, arith}
 use Rattle.npp_frac.specs.Rational.{zero_ℚ, is_less}
 use Rattle.npp_simplex.specs.Tableau.{cell}
 use Rattle.npp_simplex.proofs.Reading.{kept_yes, kept_no}
@@ -8,7 +8,7 @@ use Rattle.npp_simplex.proofs.tableau.Tableau.positive_rows.Goals.{then-is_posit
 pub loop-i-preserved : goal.loop-i-preserved
 loop-i-preserved g c =
     let p : ℕ → Bool = λ i. is_less zero_ℚ (cell c.args.self.now i c.args.column) in
-    let test = ap (is_less zero_ℚ) (sym c.entry.ensures) ∙ sym c.is_positive.ensures in
+    let test = sym c.is_positive.ensures in
     elim c.if-is_positive.branch [
       | then-is_positive w ↦ record {
         within = omega arith;

@@ -1,45 +1,38 @@
-use Rattle.std.proofs.Common.{map, refl, sym, ap, ◌∙◌}
+use Rattle.std.proofs.Common.{◌≡◌, ℕ, ◌<◌, length, arith, ap, ap₂, sym, ◌∙◌}
 use Rattle.npp_frac.specs.Rational.{◌-ℚ◌, ◌*ℚ◌}
 use Rattle.npp_frac.specs.Fits.{limit_of}
 use Rattle.npp_lp.specs.Programs.{at}
-use Rattle.npp_lp.specs.Verdict.{first_below}
-use Rattle.npp_simplex.specs.Tableau.{cell, width}
-use Rattle.npp_simplex.specs.Places.{column_unless, fits_less_product}
-use Rattle.npp_simplex.proofs.InList.{view_whole, row_kept, cell_fits, row_tested, row_changed}
-use Rattle.npp_frac.specs.ZeroLaws.{less_zero_product}
-use Rattle.npp_simplex.proofs.Zeros.{zero_stop}
+use Rattle.npp_simplex.specs.Tableau.{cell}
+use Rattle.npp_simplex.specs.Places.{fits_less_product}
+use Rattle.npp_simplex.specs.Steps.{nonzero_columns}
+use Rattle.npp_simplex.proofs.Lines.{line_within, line_length, line_cell, set_grid, changed_row, tested_row, if_none}
 use Rattle.npp_simplex.proofs.tableau.Tableau.reduce_row.Goals as goal
 
--- where the entry in the column is 0 nothing changes, and everything fits
-pub returns-then-is_zero-clause-stop : goal.returns-then-is_zero-clause-stop
-returns-then-is_zero-clause-stop g c =
-    let v = g.N.Exact.rational in
-    let t = c.args.self.now in
-    zero_stop g.N.Exact.WIDTH g.met.N.Exact.width t c.args.column (at (map v c.args.other.now)) c.args.i
-    (cell_fits v c.self.inside.shape c.self.inside.cells.items t c.self.inside.cells refl c.self.view_is c.self.invariant (limit_of g.N.Exact.WIDTH) g.met.N.Exact.fits c.args.i) c.requires.row (sym c.entry-factor.ensures ∙ c.is_zero.ensures.0 c.if-is_zero.true)
+pub index_mut-line-requires : goal.index_mut-line-requires
+index_mut-line-requires g c = omega (arith, line_within c.self.inside.shape c.self.inside.lines.items c.args.self.now c.self.view_is c.self.invariant c.args.i c.requires.row, c.self.inside.lines.ok.0)
 
-pub returns-then-is_zero-clause-reduced : goal.returns-then-is_zero-clause-reduced
-returns-then-is_zero-clause-reduced g c =
-    let v = g.N.Exact.rational in
-    let t = c.args.self.now in
-    let d = at (map v c.args.other.now) in
-    row_kept t c.args.i (λ j. cell t c.args.i j -ℚ cell t c.args.i c.args.column *ℚ d j) (view_whole v c.self.inside.shape c.self.inside.cells.items t c.self.inside.cells refl c.self.view_is) (λ j l.
-    less_zero_product (cell t c.args.i j) (cell t c.args.i c.args.column) (d j) (sym c.entry-factor.ensures ∙ c.is_zero.ensures.0 c.if-is_zero.true))
+pub reduce-requires-clause-short : goal.reduce-requires-clause-short
+reduce-requires-clause-short g c = omega (arith, (line_length c.self.inside.shape c.self.inside.lines.items c.args.self.now c.self.view_is c.self.invariant c.args.i c.index_mut-line.result.now c.requires.row c.index_mut-line.ensures.value), c.self.inside.shape.small, ap (λ u. u.rows) c.self.view_is, ap (λ u. u.columns) c.self.view_is)
+
+pub reduce-requires-clause-column : goal.reduce-requires-clause-column
+reduce-requires-clause-column g c = omega (arith, (line_length c.self.inside.shape c.self.inside.lines.items c.args.self.now c.self.view_is c.self.invariant c.args.i c.index_mut-line.result.now c.requires.row c.index_mut-line.ensures.value))
+
+pub reduce-requires-clause-other : goal.reduce-requires-clause-other
+reduce-requires-clause-other g c = c.requires.other ∙ sym (line_length c.self.inside.shape c.self.inside.lines.items c.args.self.now c.self.view_is c.self.invariant c.args.i c.index_mut-line.result.now c.requires.row c.index_mut-line.ensures.value)
+
+pub reduce-requires-clause-columns : goal.reduce-requires-clause-columns
+reduce-requires-clause-columns g c = c.requires.columns ∙ ap (nonzero_columns (at c.args.other.now)) (sym (line_length c.self.inside.shape c.self.inside.lines.items c.args.self.now c.self.view_is c.self.invariant c.args.i c.index_mut-line.result.now c.requires.row c.index_mut-line.ensures.value))
+
+pub invariant_of-self : goal.invariant_of-self
+invariant_of-self g c = set_grid c.self.inside.shape c.self.inside.lines.items c.args.self.now c.self.view_is c.self.invariant c.args.i c.requires.row c.reduce.new.self (c.reduce.ensures.length ∙ (line_length c.self.inside.shape c.self.inside.lines.items c.args.self.now c.self.view_is c.self.invariant c.args.i c.index_mut-line.result.now c.requires.row c.index_mut-line.ensures.value))
 
 pub returns-clause-stop : goal.returns-clause-stop
-returns-clause-stop g c =
-    let v = g.N.Exact.rational in
-    let s = c.self.inside.shape in
-    let t = c.args.self.now in
-    let m = limit_of g.N.Exact.WIDTH in
-    let d = at (map v c.args.other.now) in
-    c.eliminate.ensures.stop
-    ∙ row_tested v s c.as_mut_slice-cells.result.now t c.self.inside.cells c.as_mut_slice-cells.ensures.value c.self.view_is c.self.invariant c.place-start.result c.width.result c.args.i c.place-start.ensures.place c.width.ensures c.requires.row (λ j q. fits_less_product m q (v c.entry-factor.result) (d j))
-    ∙ ap (λ q. first_below (width t) (λ j. column_unless (fits_less_product m (cell t c.args.i j) q (d j)) j)) c.entry-factor.ensures
+returns-clause-stop g c = c.reduce.ensures.stop ∙ tested_row c.self.inside.shape c.self.inside.lines.items c.args.self.now c.self.view_is c.self.invariant c.args.i c.requires.row c.index_mut-line.result.now (λ p q j. fits_less_product (limit_of g.N.Exact.WIDTH) p q (at c.args.other.now j)) c.args.column c.index_mut-line.ensures.value
 
 pub returns-clause-reduced : goal.returns-clause-reduced
 returns-clause-reduced g c =
-    let v = g.N.Exact.rational in
-    let s = c.self.inside.shape in
-    rw (← c.entry-factor.ensures)
-    (row_changed v s c.as_mut_slice-cells.result.now c.args.self.now c.self.inside.cells c.as_mut_slice-cells.ensures.value c.self.view_is c.self.invariant c.place-start.result c.width.result c.args.i c.place-start.ensures.place c.width.ensures c.requires.row c.eliminate.result (λ j q. q -ℚ v c.entry-factor.result *ℚ at (map v c.args.other.now) j) c.eliminate.new.row c.eliminate.auto.row c.eliminate.ensures.reduced)
+    let x = c.index_mut-line.result.now in
+    let t = c.args.self.now in
+    let here : (j : ℕ) → at c.index_mut-line.result.now j ≡ cell c.args.self.now c.args.i j = line_cell c.self.inside.shape c.self.inside.lines.items c.args.self.now c.self.view_is c.self.invariant c.args.i c.index_mut-line.result.now c.requires.row c.index_mut-line.ensures.value in
+    changed_row c.self.inside.shape c.self.inside.lines.items c.args.self.now c.self.view_is c.self.invariant c.args.i c.requires.row c.reduce.result c.reduce.new.self x (λ j. cell t c.args.i j -ℚ cell t c.args.i c.args.column *ℚ at c.args.other.now j) c.reduce.ensures.length c.index_mut-line.ensures.value
+    (if_none c.reduce.result ((j : ℕ) → j < length x → at c.reduce.new.self j ≡ at x j -ℚ at x c.args.column *ℚ at c.args.other.now j) ((j : ℕ) → j < length x → at c.reduce.new.self j ≡ cell t c.args.i j -ℚ cell t c.args.i c.args.column *ℚ at c.args.other.now j) (λ each j l. each j l ∙ ap₂ (λ p q. p -ℚ q *ℚ at c.args.other.now j) (here j) (here c.args.column)) c.reduce.ensures.reduced)

@@ -1,0 +1,20 @@
+use Rattle.std.proofs.Common.{arith}
+use Rattle.std.specs.Int.{IsGcd}
+use Rattle.std.proofs.lemmas.Nat.Gcd.{IsGcd-from_mod, IsGcd-from_zero, mod-eq-zero_of_dvd}
+use Rattle.npp_simplex.proofs.words.common_factor.Goals as goal
+
+pub loop-y-preserved : goal.loop-y-preserved
+loop-y-preserved c = record {
+  above = omega arith;
+  same = λ g h. c.loop-y.invariant.same g (IsGcd-from_mod c.loop-y.x c.loop-y.y g h);
+}
+
+pub returns-clause-of_first : goal.returns-clause-of_first
+returns-clause-of_first c =
+    let both : IsGcd c.args.first c.args.second c.loop-y.x = c.loop-y.invariant.same c.loop-y.x (IsGcd-from_zero c.loop-y.x c.loop-y.y (omega arith)) in
+    mod-eq-zero_of_dvd c.loop-y.x both.0
+
+pub returns-clause-of_second : goal.returns-clause-of_second
+returns-clause-of_second c =
+    let both : IsGcd c.args.first c.args.second c.loop-y.x = c.loop-y.invariant.same c.loop-y.x (IsGcd-from_zero c.loop-y.x c.loop-y.y (omega arith)) in
+    mod-eq-zero_of_dvd c.loop-y.x both.1
