@@ -4,6 +4,7 @@ pub mod OpensLaws
 pub mod KeyLaws
 pub mod RuleLaws
 pub mod TakeLaws
+pub mod HeapLaws
 pub mod FamilyParts
 pub mod FirstBest
 pub mod DivisionLaws

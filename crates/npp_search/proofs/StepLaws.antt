@@ -29,12 +29,12 @@ use Rattle.npp_search.specs.Problem.{Problem, work_on}
 use Rattle.npp_search.specs.Rule.{IsByRule, shares_found}
 use Rattle.npp_search.specs.Grown.{Task, Growth, IsGrowing, IsEvidence, IsUnopenedNode, IsSettled, IsLive, NoneIsLive, IsBestFirst, EarnsBy, Earns, EarnsMore, nodes_of}
 use Rattle.npp_search.specs.Turn.{SplitsAbove, IsChild, IsTurn, OpensGreatest}
-use Rattle.npp_search.specs.Search.{bound_at, StandsFor, waiting_count, AreWaiting, TakesOne, IsGreatest, growth_of, held_nodes, IsUnderWay}
+use Rattle.npp_search.specs.Search.{bound_at, StandsFor, waiting_count, AreWaiting, TakesOne, IsGreatest, still_waiting, growth_of, held_nodes, IsUnderWay}
 use Rattle.npp_search.specs.Steps.{child, Splits, StaysLeaf, IsSplitBy, Branches, OpensNode, DropsOnly}
 use Rattle.npp_search.proofs.TurnLaws.{unopened_node, are_divided, turn_keeps, best_first_kept}
 use Rattle.npp_search.proofs.KeyLaws.{held_count-placed, none_has, children_of, Settles, settles, OpensAt, settled_at, split_there}
 use Rattle.npp_search.proofs.FoundLaws.{AreOffers, found_of, found_is, found_evidence, found_offers}
-use Rattle.npp_search.proofs.WaitingLaws.{none_of, AreAdded, DropsDead, drops_dead, waiting_after}
+use Rattle.npp_search.proofs.WaitingLaws.{none_of, AreAdded, DropsDead, drops_dead, drops_moved, waiting_after}
 use Rattle.npp_search.proofs.ChildLaws.{not_empty, child_live, child_all, child_count, child_depth}
 
 -- ---- a list and its image
@@ -66,7 +66,7 @@ module _ {N : Type 0} (value : N → Rational) (P : Problem) (task : Task) (s : 
 
 -- the dead are dropped
 dropped : {N : Type 0} (s3 s4 : State N) → DropsOnly s3 s4 → DropsDead (value_of_wide s3.lower) s3.waiting s4.waiting
-dropped s3 s4 drops = subst (λ (ws : List Waiting). DropsDead (value_of_wide s3.lower) s3.waiting ws) (sym drops.waiting) (drops_dead (value_of_wide s3.lower) s3.waiting)
+dropped s3 s4 drops = drops_moved (value_of_wide s3.lower) s3.waiting (still_waiting (value_of_wide s3.lower) s3.waiting) s4.waiting (drops_dead (value_of_wide s3.lower) s3.waiting) drops.waiting
 
 -- ---- the node that is opened
 
@@ -259,6 +259,14 @@ module _ {N : Type 0} (value : N → Rational) (P : Problem) (task : Task) (firs
               depths = subst (λ (ws : List Waiting). All (λ v. v.seen.depth ≤ s.opened) ws) (sym waiting) (subst (λ (n : ℕ). All (λ v. v.seen.depth ≤ n) after) (sym opened) depths_next);
             }
 
+    -- those that waited and wait still are above the lower value as it was
+    above_rest : (v : Waiting) → Contains rest v → value_of_wide s0.lower <ℚ bound_at v
+    above_rest v c =
+        let found = h.waiting.live v (Contains-permutation (w ∷ rest) s0.waiting v (IsPermutation-sym s0.waiting (w ∷ rest) takes.same) (in_tail w v rest c)) in
+        let st = found.2 in
+        let live = found.3 in
+        subst (λ (x : BoundValue). IsAbove x (value_of_wide s0.lower)) (sym st.bound) live.above
+
     -- ---- a leaf
 
     -- the settled tree
@@ -289,6 +297,11 @@ module _ {N : Type 0} (value : N → Rational) (P : Problem) (task : Task) (firs
     stays_leaf =
         subst (λ (dv : Option Division). OpensAt P.paths task.family task.bound s0.tree (settled s0.tree held) taken.0 (record taken.0 { node = held; division = dv }) []) node.leaf
         (settled_at P.paths task.family task.bound s0.tree held taken.0 settles_here node.leaf (sym stands.key) taken.3.unopened opened_now)
+
+    leaf_above : (s3 : State N) → StaysLeaf s2 s3 w.allowed.parts b → All (λ v. value_of_wide s0.lower <ℚ bound_at v) s3.waiting
+    leaf_above s3 stays =
+        let waited : rest ≡ s3.waiting = sym (ap (λ (s : State N). s.waiting) stays.same ∙ waiting_two) in
+        subst (λ (ws : List Waiting). All (λ v. value_of_wide s0.lower <ℚ bound_at v) ws) waited (λ k v lt. above_rest (slice_index_or rest k v) (Contains-get_or rest k v lt))
 
     pub leaf_goes_on : (s3 s4 : State N) → StaysLeaf s2 s3 w.allowed.parts b → DropsOnly s3 s4 → s0.opened < task.budget → (first ≡ true → IsGreatest s0.waiting w)
         → IsUnderWay value P task first s4
@@ -452,6 +465,26 @@ module _ {N : Type 0} (value : N → Rational) (P : Problem) (task : Task) (firs
             | inr right ↦ (let same = child_depth (s2.made + 1) sp.other (w.seen.depth + 1) (record { parts = second_of w.allowed.parts d }) (value_of_wide s2.lower) sp.second a right in omega (arith, same, before))
           ]
 
+      -- a child that waits is above the value that the turn ends with, so above the one with which it began
+      above_child : (a : Waiting) (c : Placed Held) → StandsFor a c × IsLive (value_of_wide s2.lower) (without_key c) → value_of_wide s0.lower <ℚ bound_at a
+      above_child a c both =
+          let st = both.0 in
+          let live = both.1 in
+          <ℚ_of_≤ℚ-<ℚ (subst (λ (q : Rational). value_of_wide s0.lower ≤ℚ q) (sym lower_two) no_less) (subst (λ (x : BoundValue). IsAbove x (value_of_wide s2.lower)) (sym st.bound) live.above)
+
+      split_above : All (λ v. value_of_wide s0.lower <ℚ bound_at v) s3.waiting
+      split_above =
+          let added = one_waits ++ other_waits in
+          let waited : rest ++ added ≡ s3.waiting = sym (sp.waiting ∙ ap (λ (ws : List Waiting). ws ++ added) waiting_two) in
+          subst (λ (ws : List Waiting). All (λ v. value_of_wide s0.lower <ℚ bound_at v) ws) waited
+          (λ k d lt. elim (Contains-append_cases rest added (slice_index_or (rest ++ added) k d) (Contains-get_or (rest ++ added) k d lt)) [
+            | inl in_rest ↦ above_rest (slice_index_or (rest ++ added) k d) in_rest
+            | inr in_added ↦ elim (Contains-append_cases one_waits other_waits (slice_index_or (rest ++ added) k d) in_added) [
+              | inl left ↦ above_child (slice_index_or (rest ++ added) k d) one_child (one_live (slice_index_or (rest ++ added) k d) left)
+              | inr right ↦ above_child (slice_index_or (rest ++ added) k d) other_child (other_live (slice_index_or (rest ++ added) k d) right)
+            ]
+          ])
+
       pub split_goes_on : (s4 : State N) → DropsOnly s3 s4 → s0.opened < task.budget → (first ≡ true → IsGreatest s0.waiting w) → IsUnderWay value P task first s4
       split_goes_on s4 drops room most =
           let grown : Tree Held = split_at (settled s0.tree held) w.key d one_held other_held in
@@ -472,6 +505,10 @@ module _ {N : Type 0} (value : N → Rational) (P : Problem) (task : Task) (firs
           (drops.opened ∙ (sp.opened ∙ opened_two)) (drops.lower ∙ (sp.lower ∙ o.lower)) (drops.best ∙ (sp.best ∙ o.best)) refl made
 
     -- ---- both
+
+    pub all_above : (s3 : State N) → Branches P.paths s2 s3 w.key w.seen.depth w.allowed.parts b (shares_found P w.allowed.parts) → All (λ v. value_of_wide s0.lower <ℚ bound_at v) s3.waiting
+    all_above s3 (inl leaf) = leaf_above s3 leaf
+    all_above s3 (inr split) = split_above s3 split
 
     pub goes_on : (s3 s4 : State N) → Branches P.paths s2 s3 w.key w.seen.depth w.allowed.parts b (shares_found P w.allowed.parts) → DropsOnly s3 s4 → s0.opened < task.budget
         → (first ≡ true → IsGreatest s0.waiting w) → IsUnderWay value P task first s4

@@ -5,12 +5,12 @@ use Rattle.std.specs.List.{swap_remove, take-map}
 use Rattle.std.proofs.Math.ListN as listn
 use Rattle.std.proofs.lemmas.List.{get_or-map, length-map, map-set}
 use Rattle.std.proofs.lemmas.List.Sorted.{IsPermutation-swap_remove}
-use Rattle.npp_frac.specs.Rational.{Rational, is_less, ◌≤ℚ◌}
+use Rattle.npp_frac.specs.Rational.{◌≤ℚ◌}
 use Rattle.npp_frac.specs.Wide.{value_of_wide}
 use Rattle.npp_search.specs.declared.picker.OpenNode.{OpenNode}
 use Rattle.npp_search.specs.declared.waiting.Waiting.{Waiting}
 use Rattle.npp_search.specs.Picker.{IsGreatestAt}
-use Rattle.npp_search.specs.Search.{bound_at, still_waiting, TakesOne, IsGreatest}
+use Rattle.npp_search.specs.Search.{bound_at, TakesOne, IsGreatest}
 
 -- what pickers see of nodes
 abbrev pub seen_of : List Waiting → List OpenNode
@@ -52,13 +52,12 @@ seen_removed nodes rest live left place w n same lt at seen is_left is_rest =
     let one : n ≡ w.seen = seen ∙ (ap (λ (ns : List OpenNode). slice_index_or ns place n) same ∙ (get_or-map (λ (x : Waiting). x.seen) nodes place w n lt ∙ ap (λ (x : Waiting). x.seen) (sym at))) in
     is_left ∙ (ap₂ (λ (ns : List OpenNode) (x : OpenNode). swap_remove ns place x) same one ∙ (sym (swap_remove_seen nodes place w) ∙ ap seen_of (sym is_rest)))
 
--- dead nodes are dropped in both lists
-pub seen_dropped : (lower : Rational) (nodes : List Waiting) → filter (λ (n : OpenNode). is_less lower (value_of_wide n.bound)) (seen_of nodes) ≡ seen_of (still_waiting lower nodes)
-seen_dropped lower [] = refl
-seen_dropped lower (w ∷ nodes) = by (is_less lower (bound_at w)) (seen_dropped lower nodes)
+-- what a test keeps of an image is the image of what it keeps
+pub filter_of_map : {X Y : Type 0} (f : X → Y) (test : Y → Bool) (xs : List X) → filter test (map f xs) ≡ map f (filter (λ x. test (f x)) xs)
+filter_of_map f test [] = refl
+filter_of_map f test (x ∷ xs) = by (test (f x)) (filter_of_map f test xs)
   where
-    by : (b : Bool) → filter (λ (n : OpenNode). is_less lower (value_of_wide n.bound)) (seen_of nodes) ≡ seen_of (still_waiting lower nodes)
-        → cond b (w.seen ∷ filter (λ (n : OpenNode). is_less lower (value_of_wide n.bound)) (seen_of nodes)) (filter (λ (n : OpenNode). is_less lower (value_of_wide n.bound)) (seen_of nodes))
-        ≡ seen_of (cond b (w ∷ still_waiting lower nodes) (still_waiting lower nodes))
-    by true further = ap (λ (ns : List OpenNode). w.seen ∷ ns) further
+    by : (b : Bool) → filter test (map f xs) ≡ map f (filter (λ z. test (f z)) xs)
+        → cond b (f x ∷ filter test (map f xs)) (filter test (map f xs)) ≡ map f (cond b (x ∷ filter (λ z. test (f z)) xs) (filter (λ z. test (f z)) xs))
+    by true further = ap (λ ys. f x ∷ ys) further
     by false further = further

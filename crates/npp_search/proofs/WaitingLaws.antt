@@ -1,8 +1,9 @@
 -- The nodes that wait after a turn: the one that was opened is gone, its live children have come, and those that a risen value
 -- cuts off are dropped.
-use Rattle.std.proofs.Common.{◌≡◌, ◌≢◌, inl, inr, ℕ, ◌+◌, ◌<◌, ◌≤◌, Bool, true, false, cond, nat_eq, List, [], ◌∷◌, ◌++◌, refl, sym, ◌∙◌, subst, ap, arith, Contains}
+use Rattle.std.proofs.Common.{◌≡◌, ◌≢◌, inl, inr, ℕ, ◌+◌, ◌<◌, ◌≤◌, Bool, true, false, cond, nat_eq, List, [], ◌∷◌, ◌++◌, refl, sym, ◌∙◌, subst, ap, arith, Contains, All}
+use Rattle.std.specs.List.Sorted.{IsPermutation}
 use Rattle.std.proofs.lemmas.Bool.{cases_eq, eq-eqb, ne_eqb, true≢false}
-use Rattle.std.proofs.lemmas.List.Elements.{Contains-append_left, Contains-append_right, Contains-append_cases, All-contains, filter_passes}
+use Rattle.std.proofs.lemmas.List.Elements.{Contains-append_left, Contains-append_right, Contains-append_cases, All-contains, All-head, All-tail, filter_passes}
 use Rattle.std.proofs.lemmas.List.Sums.{sum_by-cons, sum_by-append}
 use Rattle.std.proofs.lemmas.List.Sorted.{Contains-permutation, IsPermutation-sym, sum_by-IsPermutation}
 use Rattle.npp_frac.specs.Rational.{Rational, is_less, ◌≤ℚ◌, ◌<ℚ◌}
@@ -80,6 +81,22 @@ module _ (lower : Rational) where
     kept = λ w c above. is_kept (λ (v : Waiting). is_less lower (bound_at v)) ws w c (is_less_of_<ℚ lower (bound_at w) above);
     no_more = dropped_fewer ws;
   }
+
+-- the same in another order
+pub drops_moved : (lower : Rational) (ws kept new : List Waiting) → DropsDead lower ws kept → IsPermutation kept new → DropsDead lower ws new
+drops_moved lower ws kept new drops same = record {
+  above = λ w c. drops.above w (Contains-permutation new kept w (IsPermutation-sym kept new same) c);
+  among = λ w c. drops.among w (Contains-permutation new kept w (IsPermutation-sym kept new same) c);
+  kept = λ w c above. Contains-permutation kept new w same (drops.kept w c above);
+  no_more = λ key. omega (arith, sum_by-IsPermutation (one_if_key key) kept new same, drops.no_more key);
+}
+
+-- where all are above the value, none is dropped
+pub none_dropped : (lower : Rational) (ws : List Waiting) → All (λ w. lower <ℚ bound_at w) ws → ws ≡ still_waiting lower ws
+none_dropped lower [] above = refl
+none_dropped lower (w ∷ ws) above =
+    let passes = is_less_of_<ℚ lower (bound_at w) (All-head (λ v. lower <ℚ bound_at v) w ws above) in
+    ap (λ vs. w ∷ vs) (none_dropped lower ws (All-tail (λ v. lower <ℚ bound_at v) w ws above)) ∙ ap (λ b. cond b (w ∷ still_waiting lower ws) (still_waiting lower ws)) (sym passes)
 
 -- ---- a turn
 

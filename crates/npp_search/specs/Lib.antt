@@ -2,6 +2,8 @@ pub mod Problem
 pub mod Grown
 pub mod Picker
 pub mod PickerLaws
+pub mod Rank
+pub mod RankLaws
 pub mod Rule
 pub mod Scan
 pub mod Turn

@@ -1,5 +1,6 @@
 -- What the steps of a turn do to a search.
 use Rattle.std.specs.Prelude.{◌≡◌, ◌⊎◌, ℕ, ◌+◌, true, List, [], ◌∷◌, ◌++◌, Option, Some, IfSome, option_map, if◌then◌else◌}
+use Rattle.std.specs.List.Sorted.{IsPermutation}
 use Rattle.npp_frac.specs.Rational.{Rational, is_less, ◌≤ℚ◌, ◌<ℚ◌}
 use Rattle.npp_frac.specs.declared.frac128.Frac128.{Frac128}
 use Rattle.npp_frac.specs.Wide.{value_of_wide}
@@ -119,7 +120,7 @@ pub record OpensNode {N : Type 0} (value : N → Rational) (P : Problem) (old ne
 
 -- the nodes that the lower value cuts off wait no longer; all else stays
 pub record DropsOnly {N : Type 0} (old new : State N) : Type 0 where
-  pub waiting : new.waiting ≡ still_waiting (value_of_wide old.lower) old.waiting
+  pub waiting : IsPermutation (still_waiting (value_of_wide old.lower) old.waiting) new.waiting
   pub tree : new.tree ≡ old.tree
   pub opened : new.opened ≡ old.opened
   pub made : new.made ≡ old.made

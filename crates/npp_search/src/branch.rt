@@ -11,7 +11,7 @@ ghost use Rattle.npp_search.specs.Scan.{AreSharesOf};
 ghost use Rattle.npp_search.specs.Search.{IsSetting};
 ghost use Rattle.npp_search.specs.Steps.{Splits, Branches};
 
-use crate::children::{divide, is_full};
+use crate::children::divide;
 use crate::division::{Division, by_count, by_shares};
 use crate::offer::basic_bound;
 use crate::setting::Setting;
@@ -19,7 +19,7 @@ use crate::state::State;
 use crate::waiting::Waiting;
 use npp_frac::Exact;
 use npp_net::{Listed, Memory};
-use npp_rows::Allowed;
+use npp_rows::{Allowed, is_full};
 use npp_tree::Bound;
 
 /// Where a node is split: by the shares of its point, and without one by the number of paths.

@@ -1,7 +1,6 @@
 //! What the children of a node allow.
 
 ghost use Rattle.std.specs.Prelude.{◌≡◌, ◌<◌, ◌∷◌, [], length, IfOk};
-ghost use Rattle.npp_rows.specs.Parts.{is_full};
 ghost use Rattle.npp_tree.specs.Family.{first_of, second_of, rest_of};
 ghost use Rattle.npp_search.specs.Rule.{division_by};
 
@@ -9,13 +8,6 @@ use crate::division::Division;
 use npp_net::{Listed, Memory};
 use npp_rows::Allowed;
 use std::alloc::Global;
-
-/// Whether parts are a full choice: one path is allowed for each commodity.
-pub(crate) fn is_full(parts: &[Listed<u32>]) -> bool
-    ensures { result ≡ is_full parts.now }
-{
-    parts.iter().all(|part| part.len() == 1)
-}
 
 /// The families of both children.
 pub(crate) fn divide(

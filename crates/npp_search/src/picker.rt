@@ -1,6 +1,6 @@
 //! Which of the nodes that wait is opened next.
 
-ghost use Rattle.std.specs.Prelude.{◌≡◌, ◌<◌, Bool, true, false, length};
+ghost use Rattle.std.specs.Prelude.{◌≡◌, ◌<◌, Bool, true, false, length, Some, IfSome};
 ghost use Rattle.npp_search.specs.Picker.{IsGreatestAt, IsFirstBy, IsBetterBound, IsDeeper};
 
 use crate::order::{Order, first_place};
@@ -18,6 +18,15 @@ pub struct OpenNode {
     pub bound: Frac128,
 }
 
+/// An order in which nodes are taken.
+#[derive(Clone, Copy, Debug, PartialEq, Eq)]
+pub enum NodeOrder {
+    /// The greatest bound first, and of those the node that was made first.
+    GreatestBound,
+    /// The greatest depth first, of those the greatest bound, and of those the node that was made first.
+    GreatestDepth,
+}
+
 /// A rule by which the next node is taken.
 pub trait Picker {
     /// Whether it always takes a node with the greatest bound. No call changes it.
@@ -29,6 +38,14 @@ pub trait Picker {
         ensures in_range { result < length live.now }
         ensures same { best_first self.new ≡ best_first self.old }
         ensures greatest { best_first self.old ≡ true → IsGreatestAt live.now result };
+
+    /// The order in which nodes are taken, if there is one. The search then keeps the nodes in this order and takes the first
+    /// of them at once. Without one it lets `pick` name a node, which looks at all that wait.
+    fn order(&self) -> Option<NodeOrder>
+        ensures greatest { best_first self.now ≡ true → IfSome result (λ o. o ≡ NodeOrder.GreatestBound) }
+    {
+        None
+    }
 }
 
 /// Takes the node with the greatest bound, and of those the one that was made first.
@@ -88,6 +105,12 @@ impl Picker for BestBound {
     {
         first_place::<BestBound>(live)
     }
+
+    fn order(&self) -> Option<NodeOrder>
+        ensures { result ≡ Some NodeOrder.GreatestBound }
+    {
+        Some(NodeOrder::GreatestBound)
+    }
 }
 
 impl Picker for Depth {
@@ -99,5 +122,11 @@ impl Picker for Depth {
         ensures first { IsFirstBy IsDeeper live.now result }
     {
         first_place::<Depth>(live)
+    }
+
+    fn order(&self) -> Option<NodeOrder>
+        ensures { result ≡ Some NodeOrder.GreatestDepth }
+    {
+        Some(NodeOrder::GreatestDepth)
     }
 }

@@ -1,8 +1,10 @@
 //! A search between turns.
 
-ghost use Rattle.std.specs.Prelude.{◌≡◌, ◌<◌, ◌+◌, ◌^◌, option_map, OnOk};
+ghost use Rattle.std.specs.Prelude.{◌≡◌, ◌<◌, ◌+◌, ◌^◌, All, option_map, OnOk};
+ghost use Rattle.npp_frac.specs.Rational.{◌<ℚ◌};
 ghost use Rattle.npp_frac.specs.Wide.{value_of_wide};
 ghost use Rattle.npp_leaf.specs.Found.{best_value};
+ghost use Rattle.npp_search.specs.Search.{bound_at};
 ghost use Rattle.npp_search.specs.Steps.{Raises, Makes, child, DropsOnly};
 
 use crate::picker::OpenNode;
@@ -72,10 +74,14 @@ impl<N: Exact> State<N> {
         Ok(())
     }
 
-    /// Drops the nodes that the lower value cuts off.
-    pub(crate) fn drop_dead(&mut self)
+    /// Drops the nodes that the lower value cuts off, if it rose from this value, above which all bounds are.
+    pub(crate) fn drop_dead(&mut self, before: Frac128)
+        requires { All (λ w. value_of_wide before <ℚ bound_at w) self.old.waiting }
         ensures { DropsOnly self.old self.new }
     {
+        if !is_below(before, self.lower) {
+            return;
+        }
         self.waiting.drop_dead(self.lower);
     }
 }

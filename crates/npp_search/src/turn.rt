@@ -29,12 +29,13 @@ impl<N: Exact> State<N> {
             → NoneIsLive (nodes_of (problem_in (limit_of N.WIDTH) setting.now) (task_in setting.now) (growth_of N.rational self.new)) (value_of_wide self.new.lower)) }
         ensures under_way { OnOk result (IsUnderWay N.rational (problem_in (limit_of N.WIDTH) setting.now) (task_in setting.now) (P.best_first picker.old) self.new) }
     {
-        let Some(node) = self.waiting.take(picker) else {
+        let Some(node) = self.waiting.take(picker)? else {
             return Ok(false);
         };
+        let before = self.lower;
         let (bound, shares) = self.open_node(setting, &node)?;
         self.branch(setting, node, bound, shares)?;
-        self.drop_dead();
+        self.drop_dead(before);
         Ok(true)
     }
 }

@@ -1,10 +1,12 @@
 //! The nodes that wait to be opened.
 
-ghost use Rattle.std.specs.Prelude.{◌≡◌, ◌++◌, ◌∷◌, [], true, IsTrue, OnOk, OnErr, IfSome, IfNone};
+ghost use Rattle.std.specs.Prelude.{◌≡◌, ◌++◌, ◌∷◌, [], true, IsTrue, OnOk, OnErr, IfOk, IfSome, IfNone, IsPermutation};
 ghost use Rattle.npp_frac.specs.Wide.{value_of_wide};
 
-use crate::picker::{OpenNode, Picker};
-use npp_frac::{Frac128, is_below};
+use crate::listed::NodeList;
+use crate::picker::{NodeOrder, OpenNode, Picker};
+use crate::ranking::Ranking;
+use npp_frac::Frac128;
 use npp_net::Memory;
 use npp_rows::Allowed;
 use std::alloc::Global;
@@ -21,25 +23,63 @@ pub(crate) struct Waiting {
     pub(crate) allowed: Allowed,
 }
 
-/// The nodes that wait, in any order. What pickers see of them stands in a list of its own, in the same order.
+/// The nodes that wait. A picker that goes by an order finds them in a heap, and one that names a node in a list.
 #[derive(Drop)]
 pub(crate) struct WaitingList {
-    seen: Vec<OpenNode>,
-    nodes: Vec<Waiting>,
+    /// Those that an order has placed.
+    ranked: Ranking,
+    /// The others.
+    listed: NodeList,
 }
 
 impl Model for WaitingList {
-    ghost use Rattle.std.specs.Prelude.{◌≡◌, List, map};
+    ghost use Rattle.std.specs.Prelude.{◌++◌, List};
     ghost use Rattle.npp_search.specs.declared.waiting.Waiting.{Waiting};
 
     ghost Value = { List Waiting };
 
-    ghost view = { λ w. w.nodes.items };
+    ghost view = { λ w. w.ranked.nodes ++ w.listed };
+}
 
-    ghost invariant = { λ w. w.seen.items ≡ map (λ n. n.seen) w.nodes.items };
+/// Moves all nodes to the list.
+fn list_all(ranked: &mut Ranking, listed: &mut NodeList) -> Result<(), Memory>
+    ensures none { OnOk result (ranked.new.nodes ≡ []) }
+    ensures all { OnOk result (IsPermutation (ranked.old.nodes ++ listed.old) listed.new) }
+{
+    while let Some(node) = ranked.pop() {
+        listed.push(node)?;
+    }
+    Ok(())
+}
+
+/// Goes by an order from now on.
+fn arrange(order: NodeOrder, ranked: &mut Ranking, listed: &mut NodeList) -> Result<(), Memory>
+    ensures order { OnOk result (ranked.new.order ≡ order) }
+    ensures all { OnOk result (IsPermutation (ranked.old.nodes ++ listed.old) (ranked.new.nodes ++ listed.new)) }
+{
+    if ranked.order() == order {
+        return Ok(());
+    }
+    list_all(ranked, listed)?;
+    ranked.start(order);
+    Ok(())
+}
+
+/// Moves all nodes to the heap of an order.
+fn rank_all(order: NodeOrder, ranked: &mut Ranking, listed: &mut NodeList) -> Result<(), Memory>
+    ensures order { OnOk result (ranked.new.order ≡ order) }
+    ensures none { OnOk result (listed.new ≡ []) }
+    ensures all { OnOk result (IsPermutation (ranked.old.nodes ++ listed.old) ranked.new.nodes) }
+{
+    arrange(order, ranked, listed)?;
+    while let Some(node) = listed.pop() {
+        ranked.push(node)?;
+    }
+    Ok(())
 }
 
 impl WaitingList {
+    ghost use Rattle.npp_search.specs.Rank.{IsFirst};
     ghost use Rattle.npp_search.specs.Search.{TakesOne, IsGreatest, still_waiting};
 
     /// No node.
@@ -47,8 +87,8 @@ impl WaitingList {
         ensures { result ≡ [] }
     {
         WaitingList {
-            seen: Vec::new(alloc),
-            nodes: Vec::new(alloc),
+            ranked: Ranking::new(alloc, NodeOrder::GreatestBound),
+            listed: NodeList::new(alloc),
         }
     }
 
@@ -57,7 +97,7 @@ impl WaitingList {
         ensures yes { IsTrue result → self.now ≡ [] }
         ensures no { (IsTrue result → ⊥) → self.now ≡ [] → ⊥ }
     {
-        self.nodes.is_empty()
+        self.ranked.is_empty() && self.listed.is_empty()
     }
 
     /// Adds a node.
@@ -65,34 +105,51 @@ impl WaitingList {
         ensures ok { OnOk result (self.new ≡ self.old ++ node ∷ []) }
         ensures err { OnErr result (self.new ≡ self.old) }
     {
-        self.seen.reserve(1)?;
-        self.nodes.reserve(1)?;
-        self.seen.push_reserved(node.seen);
-        self.nodes.push_reserved(node);
-        Ok(())
+        self.listed.push(node)
+    }
+
+    /// Takes out the node that comes first by an order, if there is any.
+    fn take_first(&mut self, order: NodeOrder) -> Result<Option<Waiting>, Memory>
+        ensures none { IfOk result (λ taken. IfNone taken (self.old ≡ [])) }
+        ensures kept { IfOk result (λ taken. IfNone taken (self.new ≡ self.old)) }
+        ensures taken { IfOk result (λ taken. IfSome taken (TakesOne self.old self.new)) }
+        ensures first { IfOk result (λ taken. IfSome taken (IsFirst order self.old)) }
+    {
+        rank_all(order, &mut self.ranked, &mut self.listed)?;
+        Ok(self.ranked.pop())
     }
 
     /// Takes out the node that the picker names, if there is any.
-    pub(crate) fn take<P: Picker>(&mut self, picker: &mut P) -> Option<Waiting>
+    fn take_named<P: Picker>(&mut self, picker: &mut P) -> Result<Option<Waiting>, Memory>
         ensures picker { P.best_first picker.new ≡ P.best_first picker.old }
-        ensures none { IfNone result (self.old ≡ []) }
-        ensures kept { IfNone result (self.new ≡ self.old) }
-        ensures taken { IfSome result (TakesOne self.old self.new) }
-        ensures greatest { P.best_first picker.old ≡ true → IfSome result (IsGreatest self.old) }
+        ensures none { IfOk result (λ taken. IfNone taken (self.old ≡ [])) }
+        ensures kept { IfOk result (λ taken. IfNone taken (self.new ≡ self.old)) }
+        ensures taken { IfOk result (λ taken. IfSome taken (TakesOne self.old self.new)) }
+        ensures greatest { P.best_first picker.old ≡ true → IfOk result (λ taken. IfSome taken (IsGreatest self.old)) }
     {
-        if self.seen.is_empty() {
-            return None;
+        list_all(&mut self.ranked, &mut self.listed)?;
+        Ok(self.listed.take(picker))
+    }
+
+    /// Takes out the node that the picker takes next, if there is any.
+    pub(crate) fn take<P: Picker>(&mut self, picker: &mut P) -> Result<Option<Waiting>, Memory>
+        ensures picker { P.best_first picker.new ≡ P.best_first picker.old }
+        ensures none { IfOk result (λ taken. IfNone taken (self.old ≡ [])) }
+        ensures kept { IfOk result (λ taken. IfNone taken (self.new ≡ self.old)) }
+        ensures taken { IfOk result (λ taken. IfSome taken (TakesOne self.old self.new)) }
+        ensures greatest { P.best_first picker.old ≡ true → IfOk result (λ taken. IfSome taken (IsGreatest self.old)) }
+    {
+        match picker.order() {
+            Some(order) => self.take_first(order),
+            None => self.take_named(picker),
         }
-        let place = picker.pick(&self.seen);
-        self.seen.swap_remove(place);
-        Some(self.nodes.swap_remove(place))
     }
 
     /// Drops the nodes whose bound is not above this value.
     pub(crate) fn drop_dead(&mut self, lower: Frac128)
-        ensures { self.new ≡ still_waiting (value_of_wide lower) self.old }
+        ensures { IsPermutation (still_waiting (value_of_wide lower) self.old) self.new }
     {
-        self.seen.retain(|node| is_below(lower, node.bound));
-        self.nodes.retain(|node| is_below(lower, node.seen.bound));
+        self.ranked.drop_dead(lower);
+        self.listed.drop_dead(lower);
     }
 }

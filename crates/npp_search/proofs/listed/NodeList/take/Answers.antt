@@ -3,7 +3,7 @@ use Rattle.std.proofs.lemmas.List.{length-map}
 use Rattle.npp_search.specs.declared.waiting.Waiting.{Waiting}
 use Rattle.npp_search.specs.Search.{TakesOne, IsGreatest}
 use Rattle.npp_search.proofs.TakeLaws.{seen_removed, takes_one, greatest_of_place}
-use Rattle.npp_search.proofs.waiting.WaitingList.take.Goals as goal
+use Rattle.npp_search.proofs.listed.NodeList.take.Goals as goal
 
 pub invariant_of-self : goal.invariant_of-self
 invariant_of-self g c =
