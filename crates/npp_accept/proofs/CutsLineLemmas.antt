@@ -11,6 +11,7 @@ use Rattle.npp_lp.specs.SumLaws.{joined_sum_fits, checked_sum_none, checked_sum_
 use Rattle.npp_lp.specs.Sums.{joined_sum, checked_sum}
 use Rattle.npp_net.specs.Network.{Network, IsNetwork, no_commodity}
 use Rattle.npp_cover.specs.Replaces.{CoverValue}
+use Rattle.npp_cover.proofs.TestLemmas.{test_of_less}
 use Rattle.npp_rows.specs.Caps.{path_model}
 use Rattle.npp_rows.specs.Limits.{path_total, IsWithinLimits}
 use Rattle.npp_rows.specs.Lowering.{IsClosedCover, AreClosedCovers}
@@ -27,13 +28,13 @@ use Rattle.npp_check.specs.CutLines.{cuts_line}
 use Rattle.npp_check.specs.Prices.{printed_price, useful_price, none_cheaper, walks_are_cheapest, no_path_line, revenue_of, earns_lower}
 use Rattle.npp_check.specs.Rules.{and_then, broken_if, same, whole_number, sum_of}
 use Rattle.npp_check.proofs.CoverFacts.{are_within}
-use Rattle.npp_accept.proofs.Passes.{less_test, same_self, passes, keeps, counted_passes}
+use Rattle.npp_accept.proofs.Passes.{same_self, passes, keeps, counted_passes}
 use Rattle.npp_accept.proofs.ReplyFits.{price_fits, path_fits_wider, payment_fits, revenue_fits_wider, taken_inside, taken_cheapest, line_at, lines_size, line_is}
 
 -- ---- prices
 
 whole_formed : (limit n : ℕ) → n < limit → whole_number limit n ≡ Ok (whole (pos n))
-whole_formed limit n lt = ap (λ (b : Bool). cond b (Ok (whole (pos n))) (Err Overflow)) (less_test n limit lt)
+whole_formed limit n lt = ap (λ (b : Bool). cond b (Ok (whole (pos n))) (Err Overflow)) (test_of_less n limit lt)
 
 sum_formed : (limit : ℕ) (q r : Rational) → fits_add limit q r ≡ true → sum_of limit q r ≡ Ok (q +ℚ r)
 sum_formed limit q r e = ap (λ (b : Bool). cond b (Ok (q +ℚ r)) (Err Overflow)) e

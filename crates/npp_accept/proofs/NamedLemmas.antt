@@ -1,12 +1,11 @@
 -- Multipliers without a fault: each is of a row of the program, and there are no more of them than rows.
-use Rattle.std.proofs.Common.{◌≡◌, ◌∙◌, sym, refl, ℕ, ◌+◌, ◌≤◌, Bool, true, false, not, List, [], ◌∷◌, length, All, Option, Some, None, arith}
+use Rattle.std.proofs.Common.{◌≡◌, ◌∙◌, sym, refl, ℕ, ◌+◌, ◌≤◌, true, false, not, List, [], ◌∷◌, length, All, Option, Some, None, arith}
 use Rattle.std.specs.Prelude.{MatchOption}
 use Rattle.std.proofs.lemmas.Bool.{true≢false}
 use Rattle.std.proofs.lemmas.List.{length-map}
 use Rattle.npp_frac.specs.Rational.{Rational}
 use Rattle.npp_lp.specs.declared.multiplier.RowMultiplier.{RowMultiplier}
 use Rattle.npp_lp.specs.SparseLaws.{RiseFrom, rise_of_multipliers}
-use Rattle.npp_rows.specs.declared.cut.CutFault.{CutFault}
 use Rattle.npp_rows.specs.declared.cut.CutFault.TheVariants.{BadName, BadOrder, NotPositive}
 use Rattle.npp_rows.specs.declared.names.Multiplier.{Multiplier}
 use Rattle.npp_rows.specs.declared.names.RowName.{RowName}
@@ -15,13 +14,9 @@ use Rattle.npp_rows.specs.Named.{NamedProgram}
 use Rattle.npp_rows.specs.Places.{row_place}
 use Rattle.npp_rows.specs.RowOrder.{has_row, are_rows, are_in_order, are_positive, DoRise}
 use Rattle.npp_rows.specs.Taken.{placed, placed_one}
-use Rattle.npp_rows.proofs.DerivationLaws.{no_fault}
+use Rattle.npp_rows.proofs.DerivationLaws.{no_fault, passes}
 use Rattle.npp_rows.proofs.RowPlaces.{row_told}
 use Rattle.npp_rows.proofs.TakenLaws.{placed_are_rows}
-
-fault_clear : (b : Bool) (f : CutFault Rational) → fault_if (not b) f ≡ None → b ≡ true
-fault_clear true f e = refl
-fault_clear false f e = cc
 
 -- what multipliers without a fault are
 pub record AreNamed (p : NamedProgram) (ys : List (Multiplier Rational)) : Type 0 where
@@ -34,9 +29,9 @@ named_by p ys e =
     let rows = no_fault (fault_if (not (are_rows p.rows ys)) BadName) _ e in
     let order = no_fault (fault_if (not (are_in_order ys)) BadOrder) (fault_if (not (are_positive ys)) NotPositive) rows.1 in
     record {
-      rows = fault_clear (are_rows p.rows ys) BadName rows.0;
-      order = fault_clear (are_in_order ys) BadOrder order.0;
-      positive = fault_clear (are_positive ys) NotPositive order.1;
+      rows = passes (are_rows p.rows ys) BadName rows.0;
+      order = passes (are_in_order ys) BadOrder order.0;
+      positive = passes (are_positive ys) NotPositive order.1;
     }
 
 rise_length : (n a : ℕ) (ys : List (RowMultiplier Rational)) → RiseFrom a n ys → a + length ys ≤ n

@@ -8,6 +8,7 @@ use Rattle.npp_frac.specs.Order.{≤ℚ_refl, is_less_of_≤ℚ}
 use Rattle.npp_lp.specs.Sums.{checked_sum}
 use Rattle.npp_inverse.proofs.OfferLaws.{all_range}
 use Rattle.npp_cover.specs.declared.fault.CoverFault.{CoverFault}
+use Rattle.npp_cover.proofs.TestLemmas.{test_of_less}
 use Rattle.npp_check.specs.declared.refusal.Rule.{Rule}
 use Rattle.npp_check.specs.declared.refusal.Rule.TheVariants.{Overflow}
 use Rattle.npp_check.specs.CoverLines.{unless_fault}
@@ -22,9 +23,6 @@ neither false b e f = f
 pub both_pass : (a b : Bool) → a ≡ true → b ≡ true → (a && b) ≡ true
 both_pass true b e f = f
 both_pass false b e f = cc
-
-pub less_test : (m n : ℕ) → m < n → nat_lt m n ≡ true
-less_test m n lt = grind (arith, nat_tests)
 
 pub not_less_test : (m n : ℕ) → n ≤ m → nat_lt m n ≡ false
 not_less_test m n le = grind (arith, nat_tests)
@@ -55,5 +53,5 @@ pub counted_passes : (limit n : ℕ) (counts : ℕ → ℕ) (values : ℕ → Ra
     → checked_sum limit n (λ i. whole (pos (counts i))) values ≡ Ok s → counted_sum limit n counts values ≡ Ok s
 counted_passes limit n counts values s small sum =
     keeps (list_all (λ i. nat_lt (counts i) limit) (range_with_len 0 n)) Overflow (formed (checked_sum limit n (λ i. whole (pos (counts i))) values))
-    (all_range (λ i. nat_lt (counts i) limit) 0 n (λ i l u. less_test (counts i) limit (small i (omega arith))))
+    (all_range (λ i. nat_lt (counts i) limit) 0 n (λ i l u. test_of_less (counts i) limit (small i (omega arith))))
     ∙ ap formed sum

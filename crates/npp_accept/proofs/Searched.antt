@@ -30,7 +30,7 @@ use Rattle.npp_check.specs.EndLine.{end_line}
 use Rattle.npp_check.specs.NodeLines.{root_place, tree_at}
 use Rattle.npp_check.specs.PathLines.{path_lines}
 use Rattle.npp_check.specs.Verdict.{IsVerdict}
-use Rattle.npp_accept.specs.Accepted.{lines_of, IsSearched}
+use Rattle.npp_accept.specs.Accepted.{lines_of, IsOutcomeOfSearch}
 use Rattle.npp_accept.proofs.GivesLemmas.{Gives}
 use Rattle.npp_accept.proofs.TollLemmas.{gives_tolls}
 use Rattle.npp_accept.proofs.ReplyFits.{fits_of}
@@ -40,7 +40,7 @@ use Rattle.npp_accept.proofs.CutsLineLemmas.{cuts_says}
 use Rattle.npp_accept.proofs.Distances.{some_measures}
 use Rattle.npp_accept.proofs.Whole.{accepted}
 
-module _ (width budget : ℕ) (net : Network) (covers : List CoverValue) (o : OutcomeValue) (s : IsSearched width budget net covers o) where
+module _ (width budget : ℕ) (net : Network) (covers : List CoverValue) (o : OutcomeValue) (s : IsOutcomeOfSearch width budget net covers o) where
   abbrev m : PathModel
   m = path_model net covers
 

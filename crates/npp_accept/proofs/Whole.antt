@@ -9,10 +9,11 @@ use Rattle.npp_rows.specs.Caps.{path_model}
 use Rattle.npp_rows.specs.Derivations.{Derived}
 use Rattle.npp_tree.specs.declared.item.Item.{Item}
 use Rattle.npp_tree.specs.declared.item.Item.TheVariants as item
-use Rattle.npp_tree.specs.Bounds.{BoundValue, Empty, At, greater}
+use Rattle.npp_tree.specs.Bounds.{BoundValue, Empty, greater}
 use Rattle.npp_tree.specs.Lines.{numbered, cut_lines, entry_lines, cover_list, report_lines, certificate_lines}
 use Rattle.npp_tree.specs.Outcome.{OutcomeValue}
 use Rattle.npp_tree.specs.Tree.{Tree, Node, opened_in, tree_bound}
+use Rattle.npp_tree.proofs.GreaterLaws.{empty-greater}
 use Rattle.npp_report.specs.Report.{names_instance}
 use Rattle.npp_check.specs.CoverLines.{all_covers}
 use Rattle.npp_check.specs.CutLines.{cuts_line, one_cut}
@@ -34,10 +35,6 @@ use Rattle.npp_accept.proofs.HeadLemmas.{ceilings_named, items_of_instance, head
 regroup : (named tolls paths covers tree last : List (Item Rational)) (cuts head : Item Rational)
     → (((((named ++ tolls) ++ paths) ++ covers) ++ cuts ∷ []) ++ head ∷ tree) ++ last ≡ named ++ (tolls ++ (paths ++ (covers ++ cuts ∷ head ∷ (tree ++ last))))
 regroup named tolls paths covers tree last cuts head = simp append_assoc
-
-none_or : (b : BoundValue) → greater Empty b ≡ b
-none_or Empty = refl
-none_or (At v) = refl
 
 module _ (limit width : ℕ) (net : Network) (f : Measures) (covers : List CoverValue) (o : OutcomeValue) (tree : Tree Node) where
   abbrev on : Case
@@ -89,7 +86,7 @@ module _ (limit width : ℕ) (net : Network) (f : Measures) (covers : List Cover
     end_read : Gives (from_end limit on head (with_tree nothing_yet tree)) (item.End ∷ []) pair
     end_read =
         let opened : opened_in tree ≡ 0 + opened_in tree = omega arith in
-        let bound : tree_bound tree ≡ greater Empty (tree_bound tree) = sym (none_or (tree_bound tree)) in
+        let bound : tree_bound tree ≡ greater Empty (tree_bound tree) = sym (empty-greater (tree_bound tree)) in
         let said : end_line head (0 + opened_in tree) (greater Empty (tree_bound tree)) item.End ≡ Ok tt =
         subst (λ (n : ℕ). end_line head n (greater Empty (tree_bound tree)) item.End ≡ Ok tt) opened (subst (λ (b : BoundValue). end_line head (opened_in tree) b item.End ≡ Ok tt) bound ends) in
         gives_bind (line (end_line head (0 + opened_in tree) (greater Empty (tree_bound tree)))) (λ _. done pair) (item.End ∷ []) [] tt pair

@@ -21,13 +21,13 @@ abbrev pub lines_of : ℕ → Network → List CoverValue → OutcomeValue → L
 lines_of width net covers o = certificate_lines (names_instance net) width net covers o
 
 -- each item has a line, and the checker, which reads fractions of 128 bits, gives the pair of both values
-pub record IsAccepted (width : ℕ) (net : Network) (covers : List CoverValue) (o : OutcomeValue) : Type 0 where
+pub record IsAcceptedOutcome (width : ℕ) (net : Network) (covers : List CoverValue) (o : OutcomeValue) : Type 0 where
   pub lines : All HasLine (lines_of width net covers o)
   pub verdict : IsVerdict (limit_of 128) net (lines_of width net covers o) (Ok (record { lower = o.lower; upper = o.upper }))
 
 -- a search over the useful paths of an instance came to an outcome, opening at most so many nodes; its fractions have 128 bits,
 -- as those of each width have
-pub record IsSearched (width budget : ℕ) (net : Network) (covers : List CoverValue) (o : OutcomeValue) : Type 0 where
+pub record IsOutcomeOfSearch (width budget : ℕ) (net : Network) (covers : List CoverValue) (o : OutcomeValue) : Type 0 where
   pub a_width : IsWidth width
   pub network : IsNetwork net
   pub useful : AreUsefulCovers net.arcs net.commodities covers
@@ -39,4 +39,4 @@ pub record IsSearched (width budget : ℕ) (net : Network) (covers : List CoverV
 -- what a search comes to is accepted
 abbrev pub OutcomesAreAccepted : Type 0
 OutcomesAreAccepted = (width budget : ℕ) (net : Network) (covers : List CoverValue) (o : OutcomeValue)
-    → IsSearched width budget net covers o → IsAccepted width net covers o
+    → IsOutcomeOfSearch width budget net covers o → IsAcceptedOutcome width net covers o

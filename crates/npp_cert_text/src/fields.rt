@@ -1,13 +1,14 @@
 //! The fields of a line, taken from its front.
 
-ghost use Rattle.std.specs.Prelude.{◌≡◌, ◌≢◌, ◌<◌, ◌^◌, ◌↔◌, IsTrue, Some, None, length, slice_index, position, MatchOption, option_map, IfOk, IfSome, []};
+ghost use Rattle.std.specs.Prelude.{◌≡◌, ◌≢◌, ◌+◌, ◌-◌, ◌*◌, ◌<◌, ◌≤◌, ◌^◌, ◌↔◌, IsTrue, Some, None, length, slice_index, position, MatchOption, option_map, IfOk, IfSome, []};
+ghost use Rattle.std.specs.Int.{IsInRange};
 ghost use Rattle.npp_frac.specs.Wide.{value_of_wide};
 ghost use Rattle.npp_cert_text.specs.Reading.{is_space, fields_of, ceiling_in, width_in, arc_ids, take_arcs};
 ghost use Rattle.npp_cert_text.specs.Values.{whole_in, fraction_in};
 ghost use Rattle.npp_cert_text.specs.Taking.{first_of, take_number, take_wide, take_fraction, take_numbers, all_numbers};
 ghost use Rattle.npp_cert_text.specs.Said.{Reads, is_empty};
 
-use npp_frac::{Frac128, parse_fraction};
+use npp_frac::{Exact, Frac128, parse_fraction};
 use npp_net::{ArcId, Memory};
 use std::alloc::Global;
 use std::marker::Model;
@@ -201,24 +202,44 @@ fn wide_of(field: &[u8]) -> Option<u64>
     if !is_plain(field) {
         return None;
     }
-    let Ok(text) = std::str::from_utf8(field) else {
-        return None;
-    };
-    let Ok(number) = text.parse::<u64>() else {
-        return None;
-    };
+    let mut number = 0u64;
+    for byte in field {
+        number = with_digit(number, *byte)?;
+    }
     Some(number)
 }
 
-/// Whether neither a plus sign nor a zero, which `parse` would take, stands before other bytes.
-fn is_plain(digits: &[u8]) -> bool
-    ensures { IsTrue result ↔ (1 < length digits.now → (slice_index digits.now 0 ≢ 48) × (slice_index digits.now 0 ≢ 43)) }
+/// Whether there is a byte, and no zero stands before others.
+fn is_plain(field: &[u8]) -> bool
+    ensures { IsTrue result ↔ ((0 < length field.now) × (1 < length field.now → slice_index field.now 0 ≢ 48)) }
 {
-    digits.len() < 2 || (digits[0] != b'0' && digits[0] != b'+')
+    field.len() == 1 || (field.len() > 1 && field[0] != b'0')
 }
 
-/// The fraction that a field stands for.
+/// The number with one more digit at its end, where the byte is a digit and the number stays below `2^64`.
+fn with_digit(number: u64, byte: u8) -> Option<u64>
+    ensures { MatchOption result
+        (IsInRange 48 57 byte → 2 ^ 64 ≤ number * 10 + (byte - 48))
+        (λ more. IsInRange 48 57 byte × (more ≡ number * 10 + (byte - 48)) × (more < 2 ^ 64)) }
+{
+    if !byte.is_ascii_digit() {
+        return None;
+    }
+    number.checked_mul(10)?.checked_add(u64::from(byte - b'0'))
+}
+
+/// The fraction that a field stands for. A whole number that is not too large takes the short way.
 fn fraction_of(field: &[u8]) -> Option<Frac128>
+    ensures { MatchOption result (fraction_in field.now ≡ None) (λ f. fraction_in field.now ≡ Some (value_of_wide f)) }
+{
+    match wide_of(field) {
+        Some(number) if number < 1 << 63 => Some(Frac128::of_whole(number as i64)),
+        _ => long_fraction_of(field),
+    }
+}
+
+/// The same, of whatever length.
+fn long_fraction_of(field: &[u8]) -> Option<Frac128>
     ensures { MatchOption result (fraction_in field.now ≡ None) (λ f. fraction_in field.now ≡ Some (value_of_wide f)) }
 {
     parse_fraction(field)

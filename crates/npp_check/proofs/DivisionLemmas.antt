@@ -1,9 +1,10 @@
 -- Looking up a number in a rising list, and what a division leaves.
-use Rattle.std.specs.Prelude.{◌≡◌, ℕ, zero, suc, ◌<◌, ◌≤◌, Bool, true, false, ◌&&◌, nat_eq, nat_lt, List, [], ◌∷◌, length, Contains, Result, Ok, Err, is_ok, refl}
-use Rattle.std.specs.List.{list_all}
+use Rattle.std.specs.Prelude.{◌≡◌, ℕ, zero, suc, ◌-◌, ◌<◌, ◌≤◌, Bool, true, false, ◌&&◌, nat_eq, nat_lt, List, [], ◌∷◌, length, Contains, Result, Ok, Err, is_ok, refl}
+use Rattle.std.specs.List.{AllPairs, list_all}
 use Rattle.std.specs.Result.{result_ok}
-use Rattle.std.proofs.Common.{arith, ap, sym, inl, inr, eqb-true, eq-eqb}
-use Rattle.std.proofs.lemmas.Bool.{cases_Bool, or_left, or_right}
+use Rattle.std.proofs.Common.{arith, ap, sym, ◌∙◌, inl, inr, eqb-true, eq-eqb, get_or}
+use Rattle.std.proofs.lemmas.Grind.{get_or_default_zero}
+use Rattle.std.proofs.lemmas.Bool.{cases_Bool, cases_lt, or_left, or_right}
 use Rattle.std.proofs.lemmas.Bool.Decides.{nat_tests}
 use Rattle.std.proofs.lemmas.Map.Views.{Contains-from_any}
 use Rattle.npp_rows.specs.Parts.{part_at}
@@ -26,6 +27,26 @@ among_not list x none = elim (cases_Bool (is_among list x)) [
 pub found_is : (list : List ℕ) (x : ℕ) (r : Result ℕ ℕ) → IsPlaceOf list x (result_ok r) → is_ok r ≡ is_among list x
 found_is list x (Ok i) at = sym (among_there list x (i, at.0, at.1))
 found_is list x (Err i) none = sym (among_not list x none)
+
+-- a number at a place is in the list
+pub at_place : (list : List ℕ) (i x : ℕ) → i < length list → get_or list i 0 ≡ x → is_among list x ≡ true
+at_place list i x lt is = among_there list x (i, lt, get_or_default_zero list i x lt ∙ is)
+
+-- a number between two neighbours of a rising list is not in it
+pub between_places : (list : List ℕ) (i x : ℕ) → AllPairs (λ p q. p < q) list → i ≤ length list
+    → (0 < i → get_or list (i - 1) 0 < x) → (i < length list → x < get_or list i 0) → is_among list x ≡ false
+between_places list i x rising le below above = among_not list x (λ (k, l, e).
+    let at : get_or list k 0 ≡ x = sym (get_or_default_zero list k x l) ∙ e in
+    elim (cases_lt k i) [
+      | inl before ↦ elim (cases_lt k (i - 1)) [
+        | inl less ↦ omega (arith, rising k (i - 1) 0 less (omega arith), below (omega arith), at)
+        | inr same ↦ let one : k ≡ i - 1 = omega arith in omega (arith, ap (λ j. get_or list j 0) one, below (omega arith), at)
+      ]
+      | inr behind ↦ elim (cases_lt i k) [
+        | inl more ↦ omega (arith, rising i k 0 more l, above (omega arith), at)
+        | inr same ↦ let one : k ≡ i = omega arith in omega (arith, ap (λ j. get_or list j 0) one, above (omega arith), at)
+      ]
+    ])
 
 -- ---- the tests of a division
 

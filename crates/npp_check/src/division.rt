@@ -1,6 +1,6 @@
 //! How the paths that a node allows are divided.
 
-ghost use Rattle.std.specs.Prelude.{◌≡◌, ◌<◌, true, false, nat_lt, All, IfOk, MatchOption};
+ghost use Rattle.std.specs.Prelude.{◌≡◌, ◌-◌, ◌<◌, ◌≤◌, true, false, nat_lt, length, slice_index, All, IsTrue, IfOk, MatchOption};
 ghost use Rattle.std.specs.List.{AllPairs, list_all};
 ghost use Rattle.npp_rows.specs.Parts.{part_at};
 ghost use Rattle.npp_rows.specs.RowOrder.{are_rising};
@@ -10,12 +10,55 @@ use npp_net::Memory;
 use npp_rows::Allowed;
 use std::alloc::Global;
 
-/// Whether a number is in a list that rises strictly.
-fn has(list: &[u32], number: u32) -> bool
+/// Whether a number is in a list that rises strictly. A place where it may be is tried before the list is searched.
+fn has(list: &[u32], place: usize, number: u32) -> bool
     requires { AllPairs (λ p q. p < q) list.now }
     ensures { result ≡ is_among list.now number }
 {
+    if is_at(list, place, number) {
+        return true;
+    }
+    if is_between(list, place, number) {
+        return false;
+    }
     list.binary_search(&number).is_ok()
+}
+
+/// Whether a number stands at a place.
+#[tactic(auto, using(crate::proofs::DivisionLemmas::at_place))]
+fn is_at(list: &[u32], place: usize, number: u32) -> bool
+    ensures { IsTrue result → is_among list.now number ≡ true }
+{
+    place < list.len() && list[place] == number
+}
+
+/// Whether a number falls between what stands before a place and what stands at it, in a list that rises strictly.
+fn is_between(list: &[u32], place: usize, number: u32) -> bool
+    requires { AllPairs (λ p q. p < q) list.now }
+    ensures { IsTrue result → is_among list.now number ≡ false }
+{
+    if list.len() < place {
+        return false;
+    }
+    if !is_behind(list, place, number) {
+        return false;
+    }
+    is_before(list, place, number)
+}
+
+/// Whether a number is above what stands before a place, if anything does.
+fn is_behind(list: &[u32], place: usize, number: u32) -> bool
+    requires { place ≤ length list.now }
+    ensures { IsTrue result → 0 < place → slice_index list.now (place - 1) < number }
+{
+    place == 0 || list[place - 1] < number
+}
+
+/// Whether a number is below what stands at a place, if anything does.
+fn is_before(list: &[u32], place: usize, number: u32) -> bool
+    ensures { IsTrue result → place < length list.now → number < slice_index list.now place }
+{
+    place >= list.len() || number < list[place]
 }
 
 /// Whether each number is below the next.
@@ -35,8 +78,8 @@ fn is_within(part: &[u32], whole: &[u32]) -> bool
     requires { AllPairs (λ p q. p < q) whole.now }
     ensures { result ≡ list_all (is_among whole.now) part.now }
 {
-    for path in part {
-        if !has(whole, *path) {
+    for (place, path) in part.iter().enumerate() {
+        if !has(whole, place, *path) {
             return false;
         }
     }
@@ -49,8 +92,8 @@ fn rest_of(alloc: Global, part: &[u32], whole: &[u32]) -> Result<Vec<u32>, Memor
     ensures { IfOk result (λ v. v.items ≡ rest_of part.now whole.now) }
 {
     let mut rest = Vec::new(alloc);
-    for path in whole {
-        if !has(part, *path) {
+    for (place, path) in whole.iter().enumerate() {
+        if !has(part, place.saturating_sub(rest.len()), *path) {
             rest.push(*path)?;
         }
     }

@@ -31,9 +31,10 @@ use crate::refusal::Rule;
 use crate::stop::Stop;
 use npp_frac::Exact;
 use npp_lp::{DualFault, FarkasFault};
-use npp_net::{Listed, Memory};
+use npp_net::Memory;
 use npp_rows::{
     Allowed, CutRow, Multiplier, MultiplierFault, NamedSums, PathTable, RelaxationIndex,
+    first_choice,
 };
 use npp_tree::Bound;
 use std::alloc::Global;
@@ -229,17 +230,4 @@ fn rule_of_farkas<N: Exact>(fault: FarkasFault<N>) -> Rule
         FarkasFault::Overflow(_) => Rule::Overflow,
         _ => Rule::Evidence,
     }
-}
-
-/// The first path of each part.
-fn first_choice(alloc: Global, parts: &[Listed<u32>]) -> Result<Vec<u32>, Memory>
-    requires { All (λ part. 0 < length part) parts.now }
-    ensures { IfOk result (λ v. v.items ≡ first_choice parts.now) }
-{
-    let mut choice = Vec::new(alloc);
-    for part in parts {
-        let paths = part.entries();
-        choice.push(paths[0])?;
-    }
-    Ok(choice)
 }

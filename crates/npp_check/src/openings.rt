@@ -45,12 +45,7 @@ fn answered(can: bool, answer: Answer, count: u32) -> Result<Opening, Rule>
 pub fn is_full(allowed: &Allowed) -> bool
     ensures { result ≡ is_full allowed.now.parts }
 {
-    for part in allowed.parts.entries() {
-        if part.len() != 1 {
-            return false;
-        }
-    }
-    true
+    npp_rows::is_full(allowed.parts.entries())
 }
 
 /// A whole number as a bound.

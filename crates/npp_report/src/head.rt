@@ -17,11 +17,11 @@ use npp_tree::Status;
 use std::alloc::Global;
 use std::fmt::Write;
 
-/// The most toll arcs of an instance that a report need not name.
+/// The most toll arcs of an instance without ceilings that need not be named.
 const UNNAMED_TOLLS: u32 = 64;
 
-/// Whether the report names the instance.
-pub(crate) fn names_instance(instance: &Instance) -> bool
+/// Whether a report or a certificate names the instance: where an arc has a ceiling, or there are over 64 toll arcs.
+pub fn names_instance(instance: &Instance) -> bool
     ensures { result ≡ names_instance instance.now }
 {
     have_ceiling(instance.arcs()) || UNNAMED_TOLLS < instance.tolls()
@@ -34,8 +34,8 @@ fn have_ceiling(arcs: &[NetArc]) -> bool
     arcs.iter().any(|x| x.ceiling.is_some())
 }
 
-/// The first line: of the second form where the report names the instance.
-pub(crate) fn header(names_instance: bool) -> &'static str
+/// The first line of a report or a certificate: of the second form where it names the instance.
+pub fn header(names_instance: bool) -> &'static str
     ensures { result.now ≡ item_line (if names_instance then item.HeaderTwo else item.Header) }
 {
     if names_instance {
@@ -75,8 +75,8 @@ pub(crate) fn write_values<N: Exact>(
     Ok(())
 }
 
-/// Where the report names the instance, its sizes and the ceiling of each toll arc.
-pub(crate) fn write_instance(
+/// Where the instance is named, its sizes and the ceiling of each toll arc, a dash for none.
+pub fn write_instance(
     text: &mut String,
     names_instance: bool,
     instance: &Instance,

@@ -7,6 +7,7 @@ mod head;
 mod lines;
 mod report;
 
+pub use head::{header, names_instance, write_instance};
 pub use lines::{write_arcs, write_fraction, write_paths, write_tolls};
 pub use report::{Report, report_text};
 

@@ -3,5 +3,5 @@ use Rattle.npp_tree.specs.Family.{is_among}
 use Rattle.npp_check.proofs.division.rest_of.Given as goal
 
 -- the rest of the numbers so far
-abbrev pub invariant-loop-path : goal.invariant-loop-path
-invariant-loop-path l = l.rest.items ≡ filter (λ q. not (is_among l.part q)) (take l.path-index l.whole)
+abbrev pub invariant-loop-place : goal.invariant-loop-place
+invariant-loop-place l = l.rest.items ≡ filter (λ q. not (is_among l.part q)) (take l.place l.whole)
