@@ -8,7 +8,7 @@ use Rattle.npp_tree.specs.Outcome.{OutcomeValue}
 use Rattle.npp_start.proofs.CoverShape.{same_total}
 use Rattle.npp_search.specs.Outcome.{IsGrownOutcome}
 use Rattle.npp_search.specs.Problem.{problem_of}
-use Rattle.npp_accept.specs.Accepted.{IsAccepted, OutcomesAreAccepted, lines_of}
+use Rattle.npp_accept.specs.Accepted.{IsAcceptedOutcome, OutcomesAreAccepted, lines_of}
 use Rattle.npp_accept.specs.Numbers.{HasNumbers}
 use Rattle.npp_stream.specs.TextVerdicts.{IsTextVerdict}
 use Rattle.npp_stream.proofs.StreamLemmas.{written_verdict}
@@ -16,7 +16,7 @@ use Rattle.npp_writer.specs.OutcomeText.{outcome_text}
 
 -- a grown outcome at 64 bits is accepted
 pub grown_accepted : OutcomesAreAccepted → (budget : ℕ) (net : Network) (covers : List CoverValue) (o : OutcomeValue) → IsNetwork net → AreUsefulCovers net.arcs net.commodities covers
-    → path_total covers ≤ 2000 → budget < 2 ^ 32 → IsGrownOutcome (problem_of (limit_of 64) net covers) budget o → HasNumbers o → IsAccepted 64 net covers o
+    → path_total covers ≤ 2000 → budget < 2 ^ 32 → IsGrownOutcome (problem_of (limit_of 64) net covers) budget o → HasNumbers o → IsAcceptedOutcome 64 net covers o
 grown_accepted law budget net covers o network useful few small grown numbers =
     let same = same_total covers in
     law 64 budget net covers o (record {
@@ -30,7 +30,7 @@ grown_accepted law budget net covers o network useful few small grown numbers =
     })
 
 -- so its text is, where it is printed whole
-pub text_accepted : (brief : Bool) (net : Network) (covers : List CoverValue) (o : OutcomeValue) → IsAccepted 64 net covers o → brief ≡ false
+pub text_accepted : (brief : Bool) (net : Network) (covers : List CoverValue) (o : OutcomeValue) → IsAcceptedOutcome 64 net covers o → brief ≡ false
     → IsTextVerdict net (outcome_text brief 64 net covers o) (Ok (record { lower = o.lower; upper = o.upper }))
 unfolding outcome_text
 text_accepted true net covers o accepted e = cc

@@ -3,10 +3,8 @@ use Rattle.std.proofs.Common.{◌≡◌, ◌⊎◌, ◌↔◌, ℕ, List, Option
 use Rattle.std.specs.Bool.{⊤}
 use Rattle.npp_outside.specs.Shelf.{Files, file_at}
 use Rattle.npp_frac.specs.Fits.{limit_of}
-use Rattle.npp_net.specs.declared.types.Span.{Span}
 use Rattle.npp_net.specs.Network.{Network, no_commodity}
-use Rattle.npp_bounds.specs.Spans.{AllHaveFreePaths, AreSpans}
-use Rattle.npp_eval.proofs.EvalLaws.{all_have_free_paths}
+use Rattle.npp_bounds.specs.Spans.{AllHaveFreePaths}
 use Rattle.npp_tree.specs.declared.outcome.Pair.{Pair}
 use Rattle.npp_check.specs.declared.refusal.CheckRefusal.TheVariants.{Broken}
 use Rattle.npp_check.specs.declared.refusal.Rule.{Rule}
@@ -17,27 +15,29 @@ use Rattle.npp_stream.specs.declared.refusal.FileRefusal.{FileRefusal}
 use Rattle.npp_stream.specs.declared.refusal.FileRefusal.TheVariants as file
 use Rattle.npp_stream.specs.TextVerdicts.{AnswersContent, AnswersFile, HasFileCause, IsAcceptedText, bytes_verdict}
 use Rattle.npp_stream.proofs.StreamLemmas.{written_verdict}
-use Rattle.npp_cli.specs.Answers.{AnswersChecked, AnswersHeld}
-use Rattle.npp_cli.specs.Checked.{AnswersCertificate, AnswersFileRefusal, IsJudged, IsRefused, accepted_text}
+use Rattle.npp_cli.specs.declared.words.CertificateJob.{CertificateJob}
+use Rattle.npp_cli.specs.declared.words.CertificateJob.TheVariants.{Check, Upgrade}
+use Rattle.npp_cli.specs.Answers.{AnswersHeld}
+use Rattle.npp_cli.specs.Checked.{AnswersCheck, AnswersFileRefusal, IsJudged, IsRefused, IsTaken, accepted_text}
 use Rattle.npp_cli.specs.Runs.{HasAnswerCause}
 use Rattle.npp_cli.specs.Texts.{shelf_fault_text}
 
 module _ (net : Network) (name : List ℕ) (status : ℕ) (text : List ℕ) where
   -- the file is accepted
   accepted_content : (content : Option (List ℕ)) (pair : Pair) → AnswersContent net content (Ok pair)
-      → status ≡ 0 → text ≡ accepted_text (pair_value pair) → AnswersCertificate net name content status text
+      → status ≡ 0 → text ≡ accepted_text (pair_value pair) → AnswersCheck net name content status text
   accepted_content None pair checked is says = absurd checked
   accepted_content (Some bytes) pair checked is says =
       inl (inl (record { within = checked.0; pair = pair_value pair; accepted = checked.1; is_text = says; is_status = is }))
 
   pub accepted_answered : (held : Option Files) (pair : Pair) → AnswersFile net held name (Ok pair)
-      → status ≡ 0 → text ≡ accepted_text (pair_value pair) → AnswersHeld (AnswersCertificate net name) held name status text
+      → status ≡ 0 → text ≡ accepted_text (pair_value pair) → AnswersHeld (AnswersCheck net name) held name status text
   accepted_answered None pair checked is says = inr (checked.0, accepted_content checked.0 pair checked.1 is says)
   accepted_answered (Some files) pair checked is says = inr (accepted_content (file_at files name) pair checked is says)
 
   -- it is not accepted
   refused_none : AllHaveFreePaths net.arcs net.commodities → (refusal : FileRefusal) → AnswersContent net None (Err refusal)
-      → AnswersFileRefusal name refusal status text → ((status ≡ 5) × (text ≡ shelf_fault_text name)) ⊎ AnswersCertificate net name None status text
+      → AnswersFileRefusal name refusal status text → ((status ≡ 5) × (text ≡ shelf_fault_text name)) ⊎ AnswersCheck net name None status text
   refused_none connected (file.NoFreePath k) checked says = absurd (connected k no_commodity checked.0 checked.1)
   refused_none connected file.Missing checked says = inr says
   refused_none connected file.Failed checked says = inl says
@@ -46,7 +46,7 @@ module _ (net : Network) (name : List ℕ) (status : ℕ) (text : List ℕ) wher
   refused_none connected file.Memory checked says = absurd says
 
   refused_bytes : AllHaveFreePaths net.arcs net.commodities → (bytes : List ℕ) (refusal : FileRefusal) → AnswersContent net (Some bytes) (Err refusal)
-      → AnswersFileRefusal name refusal status text → ((status ≡ 5) × (text ≡ shelf_fault_text name)) ⊎ AnswersCertificate net name (Some bytes) status text
+      → AnswersFileRefusal name refusal status text → ((status ≡ 5) × (text ≡ shelf_fault_text name)) ⊎ AnswersCheck net name (Some bytes) status text
   refused_bytes connected bytes (file.NoFreePath k) checked says = absurd (connected k no_commodity checked.0 checked.1)
   refused_bytes connected bytes file.Missing checked says = absurd checked
   refused_bytes connected bytes file.Failed checked says = inl says
@@ -56,25 +56,20 @@ module _ (net : Network) (name : List ℕ) (status : ℕ) (text : List ℕ) wher
   refused_bytes connected bytes file.Memory checked says = absurd says
 
   refused_content : AllHaveFreePaths net.arcs net.commodities → (content : Option (List ℕ)) (refusal : FileRefusal) → AnswersContent net content (Err refusal)
-      → AnswersFileRefusal name refusal status text → ((status ≡ 5) × (text ≡ shelf_fault_text name)) ⊎ AnswersCertificate net name content status text
+      → AnswersFileRefusal name refusal status text → ((status ≡ 5) × (text ≡ shelf_fault_text name)) ⊎ AnswersCheck net name content status text
   refused_content connected None refusal checked says = refused_none connected refusal checked says
   refused_content connected (Some bytes) refusal checked says = refused_bytes connected bytes refusal checked says
 
   -- some content is answered so where the shelf does not tell
-  untold : (content : Option (List ℕ)) → ((status ≡ 5) × (text ≡ shelf_fault_text name)) ⊎ AnswersCertificate net name content status text
-      → AnswersHeld (AnswersCertificate net name) None name status text
+  untold : (content : Option (List ℕ)) → ((status ≡ 5) × (text ≡ shelf_fault_text name)) ⊎ AnswersCheck net name content status text
+      → AnswersHeld (AnswersCheck net name) None name status text
   untold content (inl failed) = inl failed
   untold content (inr answers) = inr (content, answers)
 
   pub refused_answered : AllHaveFreePaths net.arcs net.commodities → (held : Option Files) (refusal : FileRefusal) → AnswersFile net held name (Err refusal)
-      → AnswersFileRefusal name refusal status text → AnswersHeld (AnswersCertificate net name) held name status text
+      → AnswersFileRefusal name refusal status text → AnswersHeld (AnswersCheck net name) held name status text
   refused_answered connected None refusal checked says = untold checked.0 (refused_content connected checked.0 refusal checked.1 says)
   refused_answered connected (Some files) refusal checked says = refused_content connected (file_at files name) refusal checked says
-
-  -- each commodity has a toll-free walk
-  pub connected_answered : (held : Option Files) (ss : List Span) → AreSpans net.arcs net.commodities ss
-      → AnswersHeld (AnswersCertificate net name) held name status text → AnswersChecked held name net status text
-  connected_answered held ss are answers = inr (all_have_free_paths net.arcs net.commodities ss are, answers)
 
 -- success has no status of the shelf
 pub done_cause : (faults now_faults misses now_misses status : ℕ) → status ≡ 0 → HasAnswerCause faults now_faults misses now_misses status
@@ -117,15 +112,23 @@ not_refused net bytes status text pair accepted refused =
     ) in
     no_error pair refused.number refused.rule (Ok pair) refl (one_verdict (limit_of 128) net accepted.items (Ok pair) v accepted.verdict on_items)
 
+-- what is taken has status 0 and is accepted
+taken_accepted : (job : CertificateJob) (net : Network) (bytes : List ℕ) (status : ℕ) (text : List ℕ) → IsTaken job net bytes status text
+    → (status ≡ 0) × ((pair : PairValue) × IsAcceptedText net bytes pair)
+taken_accepted Check net bytes status text taken = (taken.is_status, (taken.pair, taken.accepted))
+taken_accepted Upgrade net bytes status text taken = (taken.is_status, (taken.is_upgrade.pair, taken.is_upgrade.taken))
+
 -- status 0 exactly where the bytes are accepted
-judged_accepted : (net : Network) (bytes : List ℕ) (status : ℕ) (text : List ℕ) → IsJudged net bytes status text → status ≡ 0 → (pair : PairValue) × IsAcceptedText net bytes pair
-judged_accepted net bytes status text (inl accepted) zero_is = (accepted.pair, accepted.accepted)
-judged_accepted net bytes status text (inr refused) zero_is = absurd (let nine = refused.is_status in omega (arith, zero_is, nine))
+judged_accepted : (job : CertificateJob) (net : Network) (bytes : List ℕ) (status : ℕ) (text : List ℕ) → IsJudged job net bytes status text
+    → status ≡ 0 → (pair : PairValue) × IsAcceptedText net bytes pair
+judged_accepted job net bytes status text (inl taken) zero_is = let found = taken_accepted job net bytes status text taken in found.1
+judged_accepted job net bytes status text (inr refused) zero_is = absurd (let nine = refused.is_status in omega (arith, zero_is, nine))
 
-judged_zero : (net : Network) (bytes : List ℕ) (status : ℕ) (text : List ℕ) → IsJudged net bytes status text → (pair : PairValue) × IsAcceptedText net bytes pair → status ≡ 0
-judged_zero net bytes status text (inl accepted) found = accepted.is_status
-judged_zero net bytes status text (inr refused) found = absurd (not_refused net bytes status text found.0 found.1 refused)
+judged_zero : (job : CertificateJob) (net : Network) (bytes : List ℕ) (status : ℕ) (text : List ℕ) → IsJudged job net bytes status text
+    → (pair : PairValue) × IsAcceptedText net bytes pair → status ≡ 0
+judged_zero job net bytes status text (inl taken) found = let zero_is = taken_accepted job net bytes status text taken in zero_is.0
+judged_zero job net bytes status text (inr refused) found = absurd (not_refused net bytes status text found.0 found.1 refused)
 
-pub judged_exactly : (net : Network) (bytes : List ℕ) (status : ℕ) (text : List ℕ) → IsJudged net bytes status text
+pub judged_exactly : (job : CertificateJob) (net : Network) (bytes : List ℕ) (status : ℕ) (text : List ℕ) → IsJudged job net bytes status text
     → (status ≡ 0) ↔ ((pair : PairValue) × IsAcceptedText net bytes pair)
-judged_exactly net bytes status text judged = (judged_accepted net bytes status text judged, judged_zero net bytes status text judged)
+judged_exactly job net bytes status text judged = (judged_accepted job net bytes status text judged, judged_zero job net bytes status text judged)

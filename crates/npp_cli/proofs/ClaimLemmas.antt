@@ -8,16 +8,18 @@ use Rattle.npp_stream.specs.TextVerdicts.{certificate_limit}
 use Rattle.npp_reader.specs.declared.document.Document.{Document}
 use Rattle.npp_reader.specs.declared.refusal.ReadRefusal.{ReadRefusal}
 use Rattle.npp_reader.specs.Reading.{reading_of}
+use Rattle.npp_reader.specs.Canonical.{canonical_text}
+use Rattle.npp_cli.specs.declared.words.CertificateJob.{CertificateJob}
+use Rattle.npp_cli.specs.declared.words.CertificateJob.TheVariants.{Check, Upgrade}
 use Rattle.npp_cli.specs.declared.words.FileJob.{FileJob}
 use Rattle.npp_cli.specs.declared.words.FileJob.TheVariants.{Solve}
-use Rattle.npp_cli.specs.Words.{Job, on_file, evaluate, check, generate, demonstrate, job_of}
-use Rattle.npp_reader.specs.Canonical.{canonical_text}
+use Rattle.npp_cli.specs.Words.{Job, on_file, evaluate, on_certificate, generate, demonstrate, job_of}
 use Rattle.npp_cli.specs.Generated.{generated}
 use Rattle.npp_cli.specs.Texts.{too_long_text, usage_text}
 use Rattle.npp_cli.specs.Evaluated.{AnswersTolls}
-use Rattle.npp_cli.specs.Checked.{AnswersCertificate, IsJudged}
-use Rattle.npp_cli.specs.Answers.{IsDone, AnswersInstance, AnswersFault, AnswersBytes, AnswersChecked, AnswersConnected, AnswersContent, AnswersFile, AnswersDemonstration, AnswersHeld, AnswersJob, AnswersNumber, AnswersOf, AnswersWithCertificate, AnswersWithTolls, Answers, instance_limit, tolls_limit}
-use Rattle.npp_cli.specs.Claims.{IsGiven, IsAsked, IsGivenTolls, IsAskedTolls, IsGivenCertificate, IsAskedCertificate, NothingFailed, WasWritten, AnswersOnCertificate, AnswersTwoFiles, Prints, PrintsAbout, PrintsAboutTwo, PrintsOnCertificate, PrintsDemonstration, PrintsDone, PrintsEvaluation, PrintsVerdict}
+use Rattle.npp_cli.specs.Checked.{AnswersCheck, IsJudged, limit_for, upgrade_limit}
+use Rattle.npp_cli.specs.Answers.{IsDone, AnswersInstance, AnswersFault, AnswersBytes, AnswersCertificate, AnswersConnected, AnswersContent, AnswersFile, AnswersDemonstration, AnswersHeld, AnswersJob, AnswersJudged, AnswersNumber, AnswersOf, AnswersWithCertificate, AnswersWithTolls, Answers, instance_limit, tolls_limit}
+use Rattle.npp_cli.specs.Claims.{AnswersOnCertificate, AnswersTwoFiles, IsAsked, IsGiven, IsGivenTwo, NothingFailed, Prints, PrintsSaid, SaysVerdict, WasWritten}
 use Rattle.npp_cli.specs.Runs.{Runs}
 use Rattle.npp_cli.proofs.StatusLemmas.{bytes_status, other_2, no_shelf_2, on_certificate_status, on_file_status, on_two_status}
 use Rattle.npp_cli.proofs.CheckLemmas.{judged_exactly}
@@ -85,38 +87,43 @@ module _ (status : ℕ) (text : List ℕ) where
   read_weaker about other weaker (Ok document) answers = weaker document.instance answers
   read_weaker about other weaker (Err fault) answers = answers
 
-  asked_content : (job : FileJob) (name : List ℕ) (files : Files) (words : List (List ℕ)) (held : Option Files)
-      → IsAsked job name files words held → status ≢ 5 → Answers words held status text → AnswersContent (AnswersOf job) instance_limit name (file_at files name) status text
-  asked_content job name files words held asked not_5 answers =
+  -- the words ask for a job, and the shelf tells its files
+  asked_answers : (job : Job) (files : Files) (words : List (List ℕ)) (held : Option Files) → IsAsked job files words held
+      → Answers words held status text → AnswersJob (Some job) (Some files) status text
+  asked_answers job files words held asked answers =
       let OfJob : Option Job → Type 0 = λ j. AnswersJob j held status text in
-      let OfHeld : Option Files → Type 0 = λ h. AnswersFile (AnswersOf job) instance_limit h name status text in
-      unfailed (AnswersOf job) instance_limit files name not_5 (subst OfHeld asked.told (subst OfJob asked.asks answers))
+      let OfHeld : Option Files → Type 0 = λ h. AnswersJob (Some job) h status text in
+      subst OfHeld asked.told (subst OfJob asked.asks answers)
+
+  asked_content : (job : FileJob) (name : List ℕ) (files : Files) (words : List (List ℕ)) (held : Option Files)
+      → IsAsked (on_file job name) files words held → status ≢ 5 → Answers words held status text
+      → AnswersContent (AnswersOf job) instance_limit name (file_at files name) status text
+  asked_content job name files words held asked not_5 answers =
+      unfailed (AnswersOf job) instance_limit files name not_5 (asked_answers (on_file job name) files words held asked answers)
 
   asked_two : (name tolls_name : List ℕ) (files : Files) (words : List (List ℕ)) (held : Option Files)
-      → IsAskedTolls name tolls_name files words held → status ≢ 5 → Answers words held status text
+      → IsAsked (evaluate name tolls_name) files words held → status ≢ 5 → Answers words held status text
       → AnswersTwoFiles name tolls_name (file_at files name) (file_at files tolls_name) status text
   asked_two name tolls_name files words held asked not_5 answers =
-      let OfJob : Option Job → Type 0 = λ j. AnswersJob j held status text in
-      let OfHeld : Option Files → Type 0 = λ h. AnswersFile (AnswersWithTolls h tolls_name) instance_limit h name status text in
       let OnTolls : Network → ℕ → List ℕ → Type 0 = λ net. AnswersFile (AnswersTolls net) tolls_limit (Some files) tolls_name in
       let OnContent : Network → ℕ → List ℕ → Type 0 = λ net. AnswersContent (AnswersTolls net) tolls_limit tolls_name (file_at files tolls_name) in
       content_weaker (AnswersWithTolls (Some files) tolls_name) (AnswersBytes OnContent) instance_limit name (file_at files name)
       (λ bytes. read_weaker OnTolls OnContent (λ net. unfailed (AnswersTolls net) tolls_limit files tolls_name not_5) (reading_of bytes))
-      (unfailed (AnswersWithTolls (Some files) tolls_name) instance_limit files name not_5 (subst OfHeld asked.told (subst OfJob asked.asks answers)))
+      (unfailed (AnswersWithTolls (Some files) tolls_name) instance_limit files name not_5
+      (asked_answers (evaluate name tolls_name) files words held asked answers))
 
-  asked_certificate : (name certificate_name : List ℕ) (files : Files) (words : List (List ℕ)) (held : Option Files)
-      → IsAskedCertificate name certificate_name files words held → status ≢ 5 → Answers words held status text
-      → AnswersOnCertificate name certificate_name (file_at files name) (file_at files certificate_name) status text
-  asked_certificate name certificate_name files words held asked not_5 answers =
-      let OfJob : Option Job → Type 0 = λ j. AnswersJob j held status text in
-      let OfHeld : Option Files → Type 0 = λ h. AnswersFile (AnswersWithCertificate h certificate_name) instance_limit h name status text in
-      let OnHeld : Network → ℕ → List ℕ → Type 0 = λ net. AnswersHeld (AnswersCertificate net certificate_name) (Some files) certificate_name in
-      let OnFile : Network → ℕ → List ℕ → Type 0 = λ net. AnswersCertificate net certificate_name (file_at files certificate_name) in
+  asked_certificate : (job : CertificateJob) (name certificate_name : List ℕ) (files : Files) (words : List (List ℕ)) (held : Option Files)
+      → IsAsked (on_certificate job name certificate_name) files words held → status ≢ 5 → Answers words held status text
+      → AnswersOnCertificate job name certificate_name (file_at files name) (file_at files certificate_name) status text
+  asked_certificate job name certificate_name files words held asked not_5 answers =
+      let OnHeld : Network → ℕ → List ℕ → Type 0 = λ net. AnswersHeld (AnswersCertificate job net certificate_name) (Some files) certificate_name in
+      let OnFile : Network → ℕ → List ℕ → Type 0 = λ net. AnswersCertificate job net certificate_name (file_at files certificate_name) in
       let OnContent : Network → ℕ → List ℕ → Type 0 = λ net. AnswersConnected (OnFile net) net in
-      content_weaker (AnswersWithCertificate (Some files) certificate_name) (AnswersBytes OnContent) instance_limit name (file_at files name)
-      (λ bytes. read_weaker (AnswersChecked (Some files) certificate_name) OnContent
-      (λ net. connected_weaker (OnHeld net) (OnFile net) net (unfailed_held (AnswersCertificate net certificate_name) files certificate_name not_5)) (reading_of bytes))
-      (unfailed (AnswersWithCertificate (Some files) certificate_name) instance_limit files name not_5 (subst OfHeld asked.told (subst OfJob asked.asks answers)))
+      content_weaker (AnswersWithCertificate job (Some files) certificate_name) (AnswersBytes OnContent) instance_limit name (file_at files name)
+      (λ bytes. read_weaker (AnswersJudged job (Some files) certificate_name) OnContent
+      (λ net. connected_weaker (OnHeld net) (OnFile net) net (unfailed_held (AnswersCertificate job net certificate_name) files certificate_name not_5)) (reading_of bytes))
+      (unfailed (AnswersWithCertificate job (Some files) certificate_name) instance_limit files name not_5
+      (asked_answers (on_certificate job name certificate_name) files words held asked answers))
 
   given_done : (words : List (List ℕ)) (held : Option Files) (job : FileJob) (net : Network) → IsGiven job words held net → status ≢ 5
       → Answers words held status text → IsDone job net status text
@@ -125,55 +132,92 @@ module _ (status : ℕ) (text : List ℕ) where
       let on_bytes = short_bytes (AnswersOf job) instance_limit given.name (file_at given.files given.name) given.bytes given.is_held given.short content in
       done_of job net given.connected (read_bytes (AnswersInstance job) given.bytes (record { names = given.names; instance = net }) given.stands_for on_bytes)
 
-  given_evaluation : (words : List (List ℕ)) (held : Option Files) (net : Network) (tolls : List ℕ) → IsGivenTolls words held net tolls → status ≢ 5
-      → Answers words held status text → AnswersTolls net tolls status text
+  given_evaluation : (words : List (List ℕ)) (held : Option Files) (net : Network) (tolls : List ℕ)
+      → IsGivenTwo evaluate tolls_limit words held net tolls → status ≢ 5 → Answers words held status text → AnswersTolls net tolls status text
   given_evaluation words held net tolls given not_5 answers =
-      let OnContent : Network → ℕ → List ℕ → Type 0 = λ net. AnswersContent (AnswersTolls net) tolls_limit given.tolls_name (file_at given.files given.tolls_name) in
-      let content = asked_two given.name given.tolls_name given.files words held (record { asks = given.asks; told = given.told }) not_5 answers in
+      let OnContent : Network → ℕ → List ℕ → Type 0 = λ net. AnswersContent (AnswersTolls net) tolls_limit given.second_name (file_at given.files given.second_name) in
+      let content = asked_two given.name given.second_name given.files words held (record { asks = given.asks; told = given.told }) not_5 answers in
       let on_bytes = short_bytes (AnswersBytes OnContent) instance_limit given.name (file_at given.files given.name) given.bytes given.is_held given.short content in
       let on_net = read_bytes OnContent given.bytes (record { names = given.names; instance = net }) given.stands_for on_bytes in
-      short_bytes (AnswersTolls net) tolls_limit given.tolls_name (file_at given.files given.tolls_name) tolls given.tolls_held given.tolls_short on_net
+      short_bytes (AnswersTolls net) tolls_limit given.second_name (file_at given.files given.second_name) tolls given.second_held given.second_short on_net
 
   -- the certificate is held, and its bytes are few enough
-  judged_bytes : (net : Network) (name : List ℕ) (file : Option (List ℕ)) (bytes : List ℕ) → file ≡ Some bytes → length bytes ≤ certificate_limit
-      → AnswersCertificate net name file status text → IsJudged net bytes status text
-  judged_bytes net name file bytes held short answers =
-      let OfFile : Option (List ℕ) → Type 0 = λ f. AnswersCertificate net name f status text in
+  checked_bytes : (net : Network) (name : List ℕ) (file : Option (List ℕ)) (bytes : List ℕ) → file ≡ Some bytes → length bytes ≤ certificate_limit
+      → AnswersCheck net name file status text → IsJudged Check net bytes status text
+  checked_bytes net name file bytes held short answers =
+      let OfFile : Option (List ℕ) → Type 0 = λ f. AnswersCheck net name f status text in
       within (subst OfFile held answers)
     where
-      within : AnswersCertificate net name (Some bytes) status text → IsJudged net bytes status text
+      within : AnswersCheck net name (Some bytes) status text → IsJudged Check net bytes status text
       within (inl judged) = judged
       within (inr long) = absurd (let longer = long.0 in omega (arith, longer, short))
 
-  given_verdict : (words : List (List ℕ)) (held : Option Files) (net : Network) (certificate : List ℕ) → IsGivenCertificate words held net certificate → status ≢ 5
-      → Answers words held status text → IsJudged net certificate status text
-  given_verdict words held net certificate given not_5 answers =
-      let OnFile : Network → ℕ → List ℕ → Type 0 = λ net. AnswersCertificate net given.certificate_name (file_at given.files given.certificate_name) in
+  judged_bytes : (job : CertificateJob) (net : Network) (name : List ℕ) (file : Option (List ℕ)) (bytes : List ℕ) → file ≡ Some bytes
+      → length bytes ≤ limit_for job → AnswersCertificate job net name file status text → IsJudged job net bytes status text
+  judged_bytes Check net name file bytes held short answers = checked_bytes net name file bytes held short answers
+  judged_bytes Upgrade net name file bytes held short answers = short_bytes (IsJudged Upgrade net) upgrade_limit name file bytes held short answers
+
+  given_verdict : (words : List (List ℕ)) (held : Option Files) (job : CertificateJob) (net : Network) (certificate : List ℕ)
+      → IsGivenTwo (on_certificate job) (limit_for job) words held net certificate → AllHaveFreePaths net.arcs net.commodities → status ≢ 5
+      → Answers words held status text → SaysVerdict job net certificate status text
+  given_verdict words held job net certificate given connected not_5 answers =
+      let OnFile : Network → ℕ → List ℕ → Type 0 = λ net. AnswersCertificate job net given.second_name (file_at given.files given.second_name) in
       let OnContent : Network → ℕ → List ℕ → Type 0 = λ net. AnswersConnected (OnFile net) net in
-      let content = asked_certificate given.name given.certificate_name given.files words held (record { asks = given.asks; told = given.told }) not_5 answers in
+      let content = asked_certificate job given.name given.second_name given.files words held (record { asks = given.asks; told = given.told }) not_5 answers in
       let on_bytes = short_bytes (AnswersBytes OnContent) instance_limit given.name (file_at given.files given.name) given.bytes given.is_held given.short content in
       let on_net = read_bytes OnContent given.bytes (record { names = given.names; instance = net }) given.stands_for on_bytes in
-      judged_bytes net given.certificate_name (file_at given.files given.certificate_name) certificate given.certificate_held given.certificate_short
-      (connected_of (OnFile net) net given.connected on_net)
+      let judged = judged_bytes job net given.second_name (file_at given.files given.second_name) certificate given.second_held given.second_short
+      (connected_of (OnFile net) net connected on_net) in
+      record { judged = judged; accepted = judged_exactly job net certificate status text judged }
+
+-- what is said by each text that answers the words is said by the one that was written
+prints_said : (may_say : ℕ → List ℕ → Type 0) (words : List (List ℕ)) (held : Option Files) (old new : Option (List ℕ)) (status : ℕ)
+    → Runs words held old new status → status ≢ 6 → status ≢ 7
+    → ((text : List ℕ) → Answers words held status text → may_say status text) → PrintsSaid may_say old new status
+prints_said may_say words held old new status runs not_6 not_7 says =
+    let whole = runs.whole not_6 not_7 in
+    record { text = whole.0; said = says whole.0 whole.1; grew = whole.2 }
 
 pub prints_done : (words : List (List ℕ)) (held : Option Files) (old new : Option (List ℕ)) (status : ℕ) → Runs words held old new status
-    → (job : FileJob) (net : Network) → IsGiven job words held net → NothingFailed status → PrintsDone job net old new status
+    → (job : FileJob) (net : Network) → IsGiven job words held net → NothingFailed status → PrintsSaid (IsDone job net) old new status
 prints_done words held old new status runs job net given nothing =
-    let whole = runs.whole nothing.sink nothing.memory in
-    record { text = whole.0; says = given_done status whole.0 words held job net given nothing.shelf whole.1; grew = whole.2 }
+    prints_said (IsDone job net) words held old new status runs nothing.sink nothing.memory
+    (λ text. given_done status text words held job net given nothing.shelf)
 
 pub prints_evaluation : (words : List (List ℕ)) (held : Option Files) (old new : Option (List ℕ)) (status : ℕ) → Runs words held old new status
-    → (net : Network) (tolls : List ℕ) → IsGivenTolls words held net tolls → NothingFailed status → PrintsEvaluation net tolls old new status
+    → (net : Network) (tolls : List ℕ) → IsGivenTwo evaluate tolls_limit words held net tolls → NothingFailed status
+    → PrintsSaid (AnswersTolls net tolls) old new status
 prints_evaluation words held old new status runs net tolls given nothing =
-    let whole = runs.whole nothing.sink nothing.memory in
-    record { text = whole.0; says = given_evaluation status whole.0 words held net tolls given nothing.shelf whole.1; grew = whole.2 }
+    prints_said (AnswersTolls net tolls) words held old new status runs nothing.sink nothing.memory
+    (λ text. given_evaluation status text words held net tolls given nothing.shelf)
 
 pub prints_verdict : (words : List (List ℕ)) (held : Option Files) (old new : Option (List ℕ)) (status : ℕ) → Runs words held old new status
-    → (net : Network) (certificate : List ℕ) → IsGivenCertificate words held net certificate → NothingFailed status → PrintsVerdict net certificate old new status
-prints_verdict words held old new status runs net certificate given nothing =
-    let whole = runs.whole nothing.sink nothing.memory in
-    let says = given_verdict status whole.0 words held net certificate given nothing.shelf whole.1 in
-    record { text = whole.0; says = says; accepted = judged_exactly net certificate status whole.0 says; grew = whole.2 }
+    → (job : CertificateJob) (net : Network) (certificate : List ℕ) → IsGivenTwo (on_certificate job) (limit_for job) words held net certificate
+    → AllHaveFreePaths net.arcs net.commodities → NothingFailed status → PrintsSaid (SaysVerdict job net certificate) old new status
+prints_verdict words held old new status runs job net certificate given connected nothing =
+    prints_said (SaysVerdict job net certificate) words held old new status runs nothing.sink nothing.memory
+    (λ text. given_verdict status text words held job net certificate given connected nothing.shelf)
+
+pub prints_about : (words : List (List ℕ)) (held : Option Files) (old new : Option (List ℕ)) (status : ℕ) → Runs words held old new status
+    → (job : FileJob) (name : List ℕ) (files : Files) → IsAsked (on_file job name) files words held → NothingFailed status
+    → PrintsSaid (AnswersContent (AnswersOf job) instance_limit name (file_at files name)) old new status
+prints_about words held old new status runs job name files asked nothing =
+    prints_said (AnswersContent (AnswersOf job) instance_limit name (file_at files name)) words held old new status runs nothing.sink nothing.memory
+    (λ text. asked_content status text job name files words held asked nothing.shelf)
+
+pub prints_about_two : (words : List (List ℕ)) (held : Option Files) (old new : Option (List ℕ)) (status : ℕ) → Runs words held old new status
+    → (name tolls_name : List ℕ) (files : Files) → IsAsked (evaluate name tolls_name) files words held → NothingFailed status
+    → PrintsSaid (AnswersTwoFiles name tolls_name (file_at files name) (file_at files tolls_name)) old new status
+prints_about_two words held old new status runs name tolls_name files asked nothing =
+    prints_said (AnswersTwoFiles name tolls_name (file_at files name) (file_at files tolls_name)) words held old new status runs nothing.sink nothing.memory
+    (λ text. asked_two status text name tolls_name files words held asked nothing.shelf)
+
+pub prints_on_certificate : (words : List (List ℕ)) (held : Option Files) (old new : Option (List ℕ)) (status : ℕ) → Runs words held old new status
+    → (job : CertificateJob) (name certificate_name : List ℕ) (files : Files) → IsAsked (on_certificate job name certificate_name) files words held
+    → NothingFailed status → PrintsSaid (AnswersOnCertificate job name certificate_name (file_at files name) (file_at files certificate_name)) old new status
+prints_on_certificate words held old new status runs job name certificate_name files asked nothing =
+    prints_said (AnswersOnCertificate job name certificate_name (file_at files name) (file_at files certificate_name)) words held old new status runs
+    nothing.sink nothing.memory (λ text. asked_certificate status text job name certificate_name files words held asked nothing.shelf)
 
 usage_of : (status : ℕ) (text : List ℕ) (held : Option Files) (job : Option Job) → job ≡ None → AnswersJob job held status text → (status ≡ 2) × (text ≡ usage_text)
 usage_of status text held job none answers = let OfJob : Option Job → Type 0 = λ j. AnswersJob j held status text in subst OfJob none answers
@@ -189,8 +233,8 @@ only_usage : (job : Option Job) (status : ℕ) → status ≡ 2 → (text : List
 only_usage None status two text held answers = refl
 only_usage (Some (on_file job name)) status two text held answers = absurd (on_file_status 2 status other_2 no_shelf_2 two job held name text answers)
 only_usage (Some (evaluate name tolls)) status two text held answers = absurd (on_two_status 2 status other_2 no_shelf_2 two held name tolls text answers)
-only_usage (Some (check name certificate)) status two text held answers =
-    absurd (on_certificate_status 2 status other_2 no_shelf_2 two held name certificate text answers)
+only_usage (Some (on_certificate job name certificate)) status two text held answers =
+    absurd (on_certificate_status 2 status other_2 no_shelf_2 two job held name certificate text answers)
 only_usage (Some (generate number)) status two text held answers = absurd (let zero_is = answers.0 in omega (arith, two, zero_is))
 only_usage (Some (demonstrate number budget)) status two text held answers =
     absurd (bytes_status 2 status other_2 two (Solve budget true) (canonical_text (generated number)) text answers)
@@ -217,28 +261,8 @@ demonstration_of : (status : ℕ) (text : List ℕ) (held : Option Files) (numbe
 demonstration_of status text held number budget job is answers = let OfJob : Option Job → Type 0 = λ j. AnswersJob j held status text in subst OfJob is answers
 
 pub prints_demonstration : (words : List (List ℕ)) (held : Option Files) (old new : Option (List ℕ)) (status : ℕ) → Runs words held old new status
-    → (number budget : ℕ) → job_of words ≡ Some (demonstrate number budget) → WasWritten status → PrintsDemonstration number budget old new status
+    → (number budget : ℕ) → job_of words ≡ Some (demonstrate number budget) → WasWritten status
+    → PrintsSaid (AnswersDemonstration number budget) old new status
 prints_demonstration words held old new status runs number budget is written =
-    let whole = runs.whole written.sink written.memory in
-    record { text = whole.0; answers = demonstration_of status whole.0 held number budget (job_of words) is whole.1; grew = whole.2 }
-
-pub prints_about : (words : List (List ℕ)) (held : Option Files) (old new : Option (List ℕ)) (status : ℕ) → Runs words held old new status
-    → (job : FileJob) (name : List ℕ) (files : Files) → IsAsked job name files words held → NothingFailed status
-    → PrintsAbout job name (file_at files name) old new status
-prints_about words held old new status runs job name files asked nothing =
-    let whole = runs.whole nothing.sink nothing.memory in
-    record { text = whole.0; answers = asked_content status whole.0 job name files words held asked nothing.shelf whole.1; grew = whole.2 }
-
-pub prints_about_two : (words : List (List ℕ)) (held : Option Files) (old new : Option (List ℕ)) (status : ℕ) → Runs words held old new status
-    → (name tolls_name : List ℕ) (files : Files) → IsAskedTolls name tolls_name files words held → NothingFailed status
-    → PrintsAboutTwo name tolls_name (file_at files name) (file_at files tolls_name) old new status
-prints_about_two words held old new status runs name tolls_name files asked nothing =
-    let whole = runs.whole nothing.sink nothing.memory in
-    record { text = whole.0; answers = asked_two status whole.0 name tolls_name files words held asked nothing.shelf whole.1; grew = whole.2 }
-
-pub prints_on_certificate : (words : List (List ℕ)) (held : Option Files) (old new : Option (List ℕ)) (status : ℕ) → Runs words held old new status
-    → (name certificate_name : List ℕ) (files : Files) → IsAskedCertificate name certificate_name files words held → NothingFailed status
-    → PrintsOnCertificate name certificate_name (file_at files name) (file_at files certificate_name) old new status
-prints_on_certificate words held old new status runs name certificate_name files asked nothing =
-    let whole = runs.whole nothing.sink nothing.memory in
-    record { text = whole.0; answers = asked_certificate status whole.0 name certificate_name files words held asked nothing.shelf whole.1; grew = whole.2 }
+    prints_said (AnswersDemonstration number budget) words held old new status runs written.sink written.memory
+    (λ text. demonstration_of status text held number budget (job_of words) is)

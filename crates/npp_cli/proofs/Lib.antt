@@ -1,7 +1,7 @@
 pub mod AcceptLemmas
+pub mod CauseLemmas
 pub mod CheckLemmas
 pub mod ClaimLemmas
-pub mod EvalLemmas
 pub mod FileLemmas
 pub mod GeneratedLimits
 pub mod GeneratedNames

@@ -6,7 +6,7 @@ use Rattle.npp_cli.specs.Runs.{Runs}
 use Rattle.npp_reader.specs.Canonical.{canonical_text}
 use Rattle.npp_cli.specs.declared.words.FileJob.TheVariants.{Solve}
 use Rattle.npp_cli.specs.Generated.{generated}
-use Rattle.npp_cli.specs.Words.{Job, on_file, evaluate, check, generate, demonstrate, job_of}
+use Rattle.npp_cli.specs.Words.{Job, on_file, evaluate, on_certificate, generate, demonstrate, job_of}
 use Rattle.npp_cli.specs.Answers.{Answers, AnswersJob}
 use Rattle.npp_cli.proofs.StatusLemmas.{IsOther, IsNoShelfStatus, bytes_status, on_certificate_status, on_file_status, on_two_status, other_6, other_7}
 
@@ -22,8 +22,8 @@ job_status : (n status : ℕ) → n ≢ 2 → IsOther n → IsNoShelfStatus n �
 job_status n status not_2 other none is None held text answers = not_2 (sym is ∙ answers.0)
 job_status n status not_2 other none is (Some (on_file job name)) held text answers = on_file_status n status other none is job held name text answers
 job_status n status not_2 other none is (Some (evaluate name tolls)) held text answers = on_two_status n status other none is held name tolls text answers
-job_status n status not_2 other none is (Some (check name certificate)) held text answers =
-    on_certificate_status n status other none is held name certificate text answers
+job_status n status not_2 other none is (Some (on_certificate job name certificate)) held text answers =
+    on_certificate_status n status other none is job held name certificate text answers
 job_status n status not_2 other none is (Some (generate number)) held text answers = other.not_0 (sym is ∙ answers.0)
 job_status n status not_2 other none is (Some (demonstrate number budget)) held text answers =
     bytes_status n status other is (Solve budget true) (canonical_text (generated number)) text answers

@@ -17,8 +17,11 @@ use Rattle.npp_cli.specs.Listed.{AnswersLimit}
 use Rattle.npp_eval.specs.declared.refusal.EvalRefusal.{EvalRefusal}
 use Rattle.npp_eval.specs.declared.refusal.EvalRefusal.TheVariants as eval
 use Rattle.npp_cli.specs.Evaluated.{AnswersEvalRefusal, AnswersTolls}
-use Rattle.npp_cli.specs.Checked.{AnswersCertificate}
-use Rattle.npp_cli.specs.Answers.{exit_status, IsDone, AnswersChecked, AnswersConnected, AnswersContent, AnswersFault, AnswersFile, AnswersHeld, AnswersInstance, AnswersOf, AnswersWithCertificate, AnswersWithTolls, instance_limit, tolls_limit}
+use Rattle.npp_cli.specs.declared.words.CertificateJob.{CertificateJob}
+use Rattle.npp_cli.specs.declared.words.CertificateJob.TheVariants.{Check, Upgrade}
+use Rattle.npp_cli.specs.Checked.{AnswersCheck, IsJudged, IsTaken, upgrade_limit}
+use Rattle.npp_cli.specs.Answers.{exit_status, IsDone, AnswersCertificate, AnswersConnected, AnswersContent, AnswersFault, AnswersFile, AnswersHeld, AnswersInstance, AnswersJudged, AnswersOf, AnswersWithCertificate, AnswersWithTolls, instance_limit, tolls_limit}
+use Rattle.npp_cli.specs.Runs.{HasAnswerCause}
 
 -- none of the statuses of an answer about the bytes of a file
 pub record IsOther (n : ℕ) : Type 0 where
@@ -125,34 +128,48 @@ on_two_status n status other none is held name tolls text answers =
     held answers
 
 -- of what is said about certificates
-certificate_status : (n status : ℕ) → IsOther n → IsNoShelfStatus n → status ≡ n → (net : Network) (name text : List ℕ) (file : Option (List ℕ))
-    → AnswersCertificate net name file status text → ⊥
-certificate_status n status other none is net name text None answers = none.not_4 (sym is ∙ answers.0)
-certificate_status n status other none is net name text (Some bytes) (inl (inl accepted)) = other.not_0 (sym is ∙ accepted.is_status)
-certificate_status n status other none is net name text (Some bytes) (inl (inr refused)) = other.not_9 (sym is ∙ refused.is_status)
-certificate_status n status other none is net name text (Some bytes) (inr long) = none.not_12 (sym is ∙ long.1)
+taken_status : (n status : ℕ) → IsOther n → status ≡ n → (job : CertificateJob) (net : Network) (bytes text : List ℕ) → IsTaken job net bytes status text → ⊥
+taken_status n status other is Check net bytes text taken = other.not_0 (sym is ∙ taken.is_status)
+taken_status n status other is Upgrade net bytes text taken = other.not_0 (sym is ∙ taken.is_status)
 
-checked_status : (n status : ℕ) → IsOther n → IsNoShelfStatus n → status ≡ n
-    → (held : Option Files) (certificate text : List ℕ) (net : Network) → AnswersChecked held certificate net status text → ⊥
-checked_status n status other none is held certificate text net answers =
-    connected_status n status other is (AnswersHeld (AnswersCertificate net certificate) held certificate) net text
-    (held_status n status none is (AnswersCertificate net certificate) certificate text (certificate_status n status other none is net certificate text) held)
+pub judged_status : (n status : ℕ) → IsOther n → status ≡ n → (job : CertificateJob) (net : Network) (bytes text : List ℕ) → IsJudged job net bytes status text → ⊥
+judged_status n status other is job net bytes text (inl taken) = taken_status n status other is job net bytes text taken
+judged_status n status other is job net bytes text (inr refused) = other.not_9 (sym is ∙ refused.is_status)
+
+check_status : (n status : ℕ) → IsOther n → IsNoShelfStatus n → status ≡ n → (net : Network) (name text : List ℕ) (file : Option (List ℕ))
+    → AnswersCheck net name file status text → ⊥
+check_status n status other none is net name text None answers = none.not_4 (sym is ∙ answers.0)
+check_status n status other none is net name text (Some bytes) (inl judged) = judged_status n status other is Check net bytes text judged
+check_status n status other none is net name text (Some bytes) (inr long) = none.not_12 (sym is ∙ long.1)
+
+certificate_status : (n status : ℕ) → IsOther n → IsNoShelfStatus n → status ≡ n → (job : CertificateJob) (net : Network) (name text : List ℕ) (file : Option (List ℕ))
+    → AnswersCertificate job net name file status text → ⊥
+certificate_status n status other none is Check net name text file answers = check_status n status other none is net name text file answers
+certificate_status n status other none is Upgrade net name text file answers =
+    content_status n status none is (IsJudged Upgrade net) upgrade_limit name text (λ bytes. judged_status n status other is Upgrade net bytes text) file answers
+
+judged_file_status : (n status : ℕ) → IsOther n → IsNoShelfStatus n → status ≡ n
+    → (job : CertificateJob) (held : Option Files) (certificate text : List ℕ) (net : Network) → AnswersJudged job held certificate net status text → ⊥
+judged_file_status n status other none is job held certificate text net answers =
+    connected_status n status other is (AnswersHeld (AnswersCertificate job net certificate) held certificate) net text
+    (held_status n status none is (AnswersCertificate job net certificate) certificate text (certificate_status n status other none is job net certificate text) held)
     answers
 
 pub on_certificate_status : (n status : ℕ) → IsOther n → IsNoShelfStatus n → status ≡ n
-    → (held : Option Files) (name certificate text : List ℕ) → AnswersFile (AnswersWithCertificate held certificate) instance_limit held name status text → ⊥
-on_certificate_status n status other none is held name certificate text answers =
-    file_status n status none is (AnswersWithCertificate held certificate) instance_limit name text
-    (λ bytes. read_status n status other is (AnswersChecked held certificate) text (checked_status n status other none is held certificate text) (reading_of bytes))
+    → (job : CertificateJob) (held : Option Files) (name certificate text : List ℕ)
+    → AnswersFile (AnswersWithCertificate job held certificate) instance_limit held name status text → ⊥
+on_certificate_status n status other none is job held name certificate text answers =
+    file_status n status none is (AnswersWithCertificate job held certificate) instance_limit name text
+    (λ bytes. read_status n status other is (AnswersJudged job held certificate) text (judged_file_status n status other none is job held certificate text) (reading_of bytes))
     held answers
 
 pub other_2 : IsOther 2
 other_2 = record { not_0 = λ e. omega (arith, e); not_1 = λ e. omega (arith, e); not_3 = λ e. omega (arith, e); not_8 = λ e. omega (arith, e); not_9 = λ e. omega (arith, e); not_10 = λ e. omega (arith, e); not_11 = λ e. omega (arith, e) }
 
-pub other_4 : IsOther 4
+other_4 : IsOther 4
 other_4 = record { not_0 = λ e. omega (arith, e); not_1 = λ e. omega (arith, e); not_3 = λ e. omega (arith, e); not_8 = λ e. omega (arith, e); not_9 = λ e. omega (arith, e); not_10 = λ e. omega (arith, e); not_11 = λ e. omega (arith, e) }
 
-pub other_5 : IsOther 5
+other_5 : IsOther 5
 other_5 = record { not_0 = λ e. omega (arith, e); not_1 = λ e. omega (arith, e); not_3 = λ e. omega (arith, e); not_8 = λ e. omega (arith, e); not_9 = λ e. omega (arith, e); not_10 = λ e. omega (arith, e); not_11 = λ e. omega (arith, e) }
 
 pub other_6 : IsOther 6
@@ -163,3 +180,9 @@ other_7 = record { not_0 = λ e. omega (arith, e); not_1 = λ e. omega (arith, e
 
 pub no_shelf_2 : IsNoShelfStatus 2
 no_shelf_2 = record { not_4 = λ e. omega (arith, e); not_5 = λ e. omega (arith, e); not_12 = λ e. omega (arith, e) }
+
+-- an answer that has none of these statuses has no status of the shelf
+pub other_cause : (faults now_faults misses now_misses status : ℕ) → ((n : ℕ) → IsOther n → status ≡ n → ⊥)
+    → HasAnswerCause faults now_faults misses now_misses status
+other_cause faults now_faults misses now_misses status never =
+    record { missing = λ e. absurd (never 4 other_4 e); failed = λ e. absurd (never 5 other_5 e) }

@@ -5,7 +5,7 @@ use Rattle.npp_tree.specs.Outcome.{outcome_value}
 use Rattle.npp_writer.specs.OutcomeText.{outcome_text}
 use Rattle.npp_cli.specs.declared.answers.Answer.{Answer}
 use Rattle.npp_cli.specs.declared.answers.Output.{Output}
-use Rattle.npp_cli.specs.declared.answers.Output.TheVariants.{Text, Solved}
+use Rattle.npp_cli.specs.declared.answers.Output.TheVariants.{Text, Bytes, Solved}
 use Rattle.npp_cli.specs.declared.answers.Solution.{Solution}
 
 -- the certificate of a solution, or its report alone
@@ -15,6 +15,7 @@ solution_text s = outcome_text s.brief 64 s.instance s.covers.items (outcome_val
 -- the bytes that an output stands for
 abbrev pub output_text : Output → List ℕ
 output_text (Text text) = string_bytes text
+output_text (Bytes bytes) = bytes.items
 output_text (Solved solution) = solution_text solution
 
 abbrev pub answer_text : Answer → List ℕ

@@ -12,9 +12,11 @@ use Rattle.npp_bounds.specs.declared.refusal.BoundsRefusal.TheVariants.{NoFreePa
 use Rattle.npp_bounds.specs.Spans.{AreSpans, AllHaveFreePaths, IsBoundsRefusal, basic}
 use Rattle.npp_cli.specs.declared.words.FileJob.{FileJob}
 use Rattle.npp_cli.specs.declared.words.FileJob.TheVariants.{Solve, Bounds, Paths}
-use Rattle.npp_cli.specs.Words.{Job, on_file, evaluate, check, generate, demonstrate, job_of}
+use Rattle.npp_cli.specs.declared.words.CertificateJob.{CertificateJob}
+use Rattle.npp_cli.specs.declared.words.CertificateJob.TheVariants.{Check, Upgrade}
+use Rattle.npp_cli.specs.Words.{Job, on_file, evaluate, on_certificate, generate, demonstrate, job_of}
 use Rattle.npp_cli.specs.Evaluated.{AnswersTolls}
-use Rattle.npp_cli.specs.Checked.{AnswersCertificate}
+use Rattle.npp_cli.specs.Checked.{AnswersCheck, IsJudged, upgrade_limit}
 use Rattle.npp_cli.specs.Generated.{generated}
 use Rattle.npp_frac.specs.Fits.{limit_of}
 use Rattle.npp_cover.specs.Replaces.{CoverValue}
@@ -121,14 +123,20 @@ AnswersOf job bytes status text = AnswersBytes (AnswersInstance job) bytes statu
 abbrev pub AnswersWithTolls : Option Files → List ℕ → List ℕ → ℕ → List ℕ → Type 0
 AnswersWithTolls held tolls bytes status text = AnswersBytes (λ net. AnswersFile (AnswersTolls net) tolls_limit held tolls) bytes status text
 
+-- the answer of a job about a certificate file of this name that is missing or has these bytes. `upgrade` judges no line of one
+-- that has more bytes than it may have
+abbrev pub AnswersCertificate : CertificateJob → Network → List ℕ → Option (List ℕ) → ℕ → List ℕ → Type 0
+AnswersCertificate Check net name file status text = AnswersCheck net name file status text
+AnswersCertificate Upgrade net name file status text = AnswersContent (IsJudged Upgrade net) upgrade_limit name file status text
+
 -- the answer about the certificate file of this name, for an instance
-abbrev pub AnswersChecked : Option Files → List ℕ → Network → ℕ → List ℕ → Type 0
-AnswersChecked held certificate net status text =
-    AnswersConnected (AnswersHeld (AnswersCertificate net certificate) held certificate) net status text
+abbrev pub AnswersJudged : CertificateJob → Option Files → List ℕ → Network → ℕ → List ℕ → Type 0
+AnswersJudged job held certificate net status text =
+    AnswersConnected (AnswersHeld (AnswersCertificate job net certificate) held certificate) net status text
 
 -- the same for the instance of another file, about the bytes of that
-abbrev pub AnswersWithCertificate : Option Files → List ℕ → List ℕ → ℕ → List ℕ → Type 0
-AnswersWithCertificate held certificate bytes status text = AnswersBytes (AnswersChecked held certificate) bytes status text
+abbrev pub AnswersWithCertificate : CertificateJob → Option Files → List ℕ → List ℕ → ℕ → List ℕ → Type 0
+AnswersWithCertificate job held certificate bytes status text = AnswersBytes (AnswersJudged job held certificate) bytes status text
 
 -- the canonical text of the generated instance, with status 0
 abbrev pub AnswersNumber : ℕ → ℕ → List ℕ → Type 0
@@ -143,8 +151,8 @@ abbrev pub AnswersJob : Option Job → Option Files → ℕ → List ℕ → Typ
 AnswersJob None held status text = (status ≡ 2) × (text ≡ usage_text)
 AnswersJob (Some (on_file job name)) held status text = AnswersFile (AnswersOf job) instance_limit held name status text
 AnswersJob (Some (evaluate name tolls)) held status text = AnswersFile (AnswersWithTolls held tolls) instance_limit held name status text
-AnswersJob (Some (check name certificate)) held status text =
-    AnswersFile (AnswersWithCertificate held certificate) instance_limit held name status text
+AnswersJob (Some (on_certificate job name certificate)) held status text =
+    AnswersFile (AnswersWithCertificate job held certificate) instance_limit held name status text
 AnswersJob (Some (generate number)) held status text = AnswersNumber number status text
 AnswersJob (Some (demonstrate number budget)) held status text = AnswersDemonstration number budget status text
 

@@ -12,6 +12,7 @@ usage_text =
     ++ line (codes "       npp eval FILE TOLLS")
     ++ line (codes "       npp gen NUMBER")
     ++ line (codes "       npp demo NUMBER [--budget N] [--cuts N] [--numbers W]")
+    ++ line (codes "       npp upgrade FILE CERTIFICATE")
 
 -- of a file that is not there
 abbrev pub missing_text : List ℕ → List ℕ

@@ -6,16 +6,18 @@ use Rattle.std.specs.Str.Parse.{digits_value}
 use Rattle.std.specs.Cmp.Lexicographic.{pointwise}
 use Rattle.npp_words.specs.Given.{GivenValue, given_of}
 use Rattle.npp_cli.specs.declared.words.Command.{Command}
-use Rattle.npp_cli.specs.declared.words.Command.TheVariants.{OnFile, Evaluate, Check, Generate, Demonstrate}
+use Rattle.npp_cli.specs.declared.words.Command.TheVariants.{OnFile, Evaluate, OnCertificate, Generate, Demonstrate}
+use Rattle.npp_cli.specs.declared.words.CertificateJob.{CertificateJob}
+use Rattle.npp_cli.specs.declared.words.CertificateJob.TheVariants.{Check, Upgrade}
 use Rattle.npp_cli.specs.declared.words.FileJob.{FileJob}
 use Rattle.npp_cli.specs.declared.words.FileJob.TheVariants.{Solve, Bounds, Paths}
 
--- a job, with the name of its file, the names of its instance and its tolls or its certificate, its number, or its number and its
--- budget
+-- a job, with the name of its file, the names of its instance and of its tolls or its certificate, its number, or its number and
+-- its budget
 pub data Job : Type 0 where
   on_file : FileJob → List ℕ → Job
   evaluate : List ℕ → List ℕ → Job
-  check : List ℕ → List ℕ → Job
+  on_certificate : CertificateJob → List ℕ → List ℕ → Job
   generate : ℕ → Job
   demonstrate : ℕ → ℕ → Job
 
@@ -23,7 +25,7 @@ pub data Job : Type 0 where
 abbrev pub job_meant : Command → Job
 job_meant (OnFile job file) = on_file job file.now
 job_meant (Evaluate file tolls) = evaluate file.now tolls.now
-job_meant (Check file certificate) = check file.now certificate.now
+job_meant (OnCertificate job file certificate) = on_certificate job file.now certificate.now
 job_meant (Generate number) = generate number
 job_meant (Demonstrate number budget) = demonstrate number budget
 
@@ -31,7 +33,7 @@ job_meant (Demonstrate number budget) = demonstrate number budget
 abbrev pub IsWithinDigits : Command → Type 0
 IsWithinDigits (OnFile job file) = ⊤
 IsWithinDigits (Evaluate file tolls) = ⊤
-IsWithinDigits (Check file certificate) = ⊤
+IsWithinDigits (OnCertificate job file certificate) = ⊤
 IsWithinDigits (Generate number) = number ≤ 999999
 IsWithinDigits (Demonstrate number budget) = number ≤ 999999
 
@@ -60,8 +62,9 @@ job_for_one budget brief job first =
 abbrev pub job_for_two : List ℕ → List ℕ → List ℕ → Option Job
 job_for_two job first second =
     if pointwise nat_eq job (codes "eval") then Some (evaluate first second)
-    else (if pointwise nat_eq job (codes "check") then Some (check first second)
-    else None)
+    else (if pointwise nat_eq job (codes "check") then Some (on_certificate Check first second)
+    else (if pointwise nat_eq job (codes "upgrade") then Some (on_certificate Upgrade first second)
+    else None))
 
 abbrev pub job_with : GivenValue → Option (List ℕ) → Option Job
 job_with given None = job_for_one given.budget given.brief given.job given.first

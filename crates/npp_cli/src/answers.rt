@@ -1,5 +1,5 @@
 //! What is answered: a status, and the text that is written with it.
-ghost use Rattle.std.specs.Prelude.{IfOk};
+ghost use Rattle.std.specs.Prelude.{IfOk, string_bytes};
 ghost use Rattle.npp_outside.specs.Sink.{WritesWhole, HasSinkCause};
 ghost use Rattle.npp_cli.specs.Answer.{IsAnswer, answer_text, output_text};
 ghost use Rattle.npp_cli.specs.Listed.{AnswersLimit};
@@ -23,6 +23,7 @@ const USAGE: &str = "usage: npp solve FILE [--budget N] [--cuts N] [--numbers W]
        npp eval FILE TOLLS
        npp gen NUMBER
        npp demo NUMBER [--budget N] [--cuts N] [--numbers W]
+       npp upgrade FILE CERTIFICATE
 ";
 
 /// An outcome of a search, with what its certificate speaks of.
@@ -43,6 +44,8 @@ pub struct Solution {
 pub enum Output {
     /// This text.
     Text(String),
+    /// These bytes.
+    Bytes(Vec<u8>),
     /// The certificate of a solution, or its report alone.
     Solved(Solution),
 }
@@ -56,6 +59,18 @@ pub struct Answer {
     pub output: Output,
 }
 
+impl Answer {
+    /// The answer of this status that writes this text.
+    pub fn with_text(status: u8, text: String) -> Answer
+        ensures { IsAnswer status (string_bytes text) result }
+    {
+        Answer {
+            status,
+            output: Output::Text(text),
+        }
+    }
+}
+
 /// Writes an output. On an error a part of it was written that is not the whole.
 pub fn write_output<O: Sink>(alloc: Global, output: &Output, out: &mut O) -> Result<(), SinkAnswer>
     ensures written { WritesWhole (O.written out.old) (O.written out.new) (output_text output.now) result }
@@ -63,6 +78,7 @@ pub fn write_output<O: Sink>(alloc: Global, output: &Output, out: &mut O) -> Res
 {
     match output {
         Output::Text(text) => write_whole(out, text.as_bytes()),
+        Output::Bytes(bytes) => write_whole(out, bytes),
         Output::Solved(solution) => write_certificate(
             alloc,
             &solution.instance,
@@ -79,10 +95,7 @@ pub fn usage(alloc: Global) -> Result<Answer, Memory>
     ensures { IfOk result (IsAnswer 2 usage_text) }
 {
     let text = String::from_str(alloc, USAGE)?;
-    Ok(Answer {
-        status: 2,
-        output: Output::Text(text),
-    })
+    Ok(Answer::with_text(2, text))
 }
 
 /// The instance text has a faulty line, of which this is the first, and this the name of its fault.
@@ -90,10 +103,7 @@ pub fn faulty_line(alloc: Global, line: u64, kind: &str) -> Result<Answer, Memor
     ensures { IfOk result (IsAnswer 3 (faulty_line_text line kind.now)) }
 {
     let text = format!(in alloc; "refused instance line {line} {kind}\n")?;
-    Ok(Answer {
-        status: 3,
-        output: Output::Text(text),
-    })
+    Ok(Answer::with_text(3, text))
 }
 
 /// The file of this name was not taken.
@@ -113,10 +123,7 @@ fn missing(alloc: Global, name: &str) -> Result<Answer, Memory>
     ensures { IfOk result (IsAnswer 4 (missing_text name.now)) }
 {
     let text = format!(in alloc; "missing {name}\n")?;
-    Ok(Answer {
-        status: 4,
-        output: Output::Text(text),
-    })
+    Ok(Answer::with_text(4, text))
 }
 
 // The shelf failed at the file of this name.
@@ -124,10 +131,7 @@ fn shelf_fault(alloc: Global, name: &str) -> Result<Answer, Memory>
     ensures { IfOk result (IsAnswer 5 (shelf_fault_text name.now)) }
 {
     let text = format!(in alloc; "shelf fault {name}\n")?;
-    Ok(Answer {
-        status: 5,
-        output: Output::Text(text),
-    })
+    Ok(Answer::with_text(5, text))
 }
 
 /// This is the first line of the tolls text that is not the line that must stand there.
@@ -135,10 +139,7 @@ pub fn refused_tolls(alloc: Global, line: u32) -> Result<Answer, Memory>
     ensures { IfOk result (IsAnswer 9 (refused_tolls_text line)) }
 {
     let text = format!(in alloc; "refused tolls line {line}\n")?;
-    Ok(Answer {
-        status: 9,
-        output: Output::Text(text),
-    })
+    Ok(Answer::with_text(9, text))
 }
 
 /// This is the first commodity of which a sum or product of the reply does not fit.
@@ -146,10 +147,7 @@ pub fn too_wide(alloc: Global, k: u32) -> Result<Answer, Memory>
     ensures { IfOk result (IsAnswer 8 (overflow_text k)) }
 {
     let text = format!(in alloc; "refused overflow {k}\n")?;
-    Ok(Answer {
-        status: 8,
-        output: Output::Text(text),
-    })
+    Ok(Answer::with_text(8, text))
 }
 
 /// This is the first commodity that has no toll-free walk.
@@ -157,10 +155,7 @@ pub fn no_free_path(alloc: Global, k: u32) -> Result<Answer, Memory>
     ensures { IfOk result (IsAnswer 10 (no_free_path_text k)) }
 {
     let text = format!(in alloc; "refused no-free-path {k}\n")?;
-    Ok(Answer {
-        status: 10,
-        output: Output::Text(text),
-    })
+    Ok(Answer::with_text(10, text))
 }
 
 /// A limit is passed.
@@ -179,10 +174,7 @@ pub fn too_many_labels(alloc: Global, k: u32) -> Result<Answer, Memory>
     ensures { IfOk result (IsAnswer 11 (too_many_labels_text k)) }
 {
     let text = format!(in alloc; "refused too-many-labels {k}\n")?;
-    Ok(Answer {
-        status: 11,
-        output: Output::Text(text),
-    })
+    Ok(Answer::with_text(11, text))
 }
 
 /// This is the first commodity that passes a limit, and the useful paths up to it are too many.
@@ -190,10 +182,7 @@ pub fn too_many_paths(alloc: Global, k: u32) -> Result<Answer, Memory>
     ensures { IfOk result (IsAnswer 11 (too_many_paths_text k)) }
 {
     let text = format!(in alloc; "refused too-many-paths {k}\n")?;
-    Ok(Answer {
-        status: 11,
-        output: Output::Text(text),
-    })
+    Ok(Answer::with_text(11, text))
 }
 
 // The file of this name has more bytes than its limit.
@@ -201,8 +190,5 @@ fn too_long(alloc: Global, name: &str) -> Result<Answer, Memory>
     ensures { IfOk result (IsAnswer 12 (too_long_text name.now)) }
 {
     let text = format!(in alloc; "refused too-long {name}\n")?;
-    Ok(Answer {
-        status: 12,
-        output: Output::Text(text),
-    })
+    Ok(Answer::with_text(12, text))
 }

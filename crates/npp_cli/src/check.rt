@@ -3,65 +3,25 @@ ghost use Rattle.std.specs.Prelude.{◌≡◌, ◌++◌, IfOk, codes};
 ghost use Rattle.npp_bounds.specs.Spans.{AllHaveFreePaths};
 ghost use Rattle.npp_check.specs.Verdict.{pair_value};
 ghost use Rattle.npp_cli.specs.Answer.{IsAnswer, answer_text};
-ghost use Rattle.npp_cli.specs.Answers.{AnswersChecked, AnswersHeld, AnswersWithCertificate};
-ghost use Rattle.npp_cli.specs.Checked.{AnswersCertificate, AnswersFileRefusal, accepted_text, refused_certificate_text};
+ghost use Rattle.npp_cli.specs.Answers.{AnswersHeld};
+ghost use Rattle.npp_cli.specs.Checked.{AnswersCheck, AnswersFileRefusal, accepted_text, refused_certificate_text};
 ghost use Rattle.npp_cli.specs.RuleWords.{fault_word, rule_word};
 ghost use Rattle.npp_cli.specs.Runs.{HasAnswerCause};
 
-use crate::answers::{Answer, Output, faulty_line, no_free_path, not_taken};
+use crate::answers::{Answer, no_free_path, not_taken};
 use crate::take::TakeRefusal;
-use npp_bounds::{BoundsRefusal, free_and_zero};
 use npp_check::Rule;
 use npp_cover::CoverFault;
 use npp_net::{Instance, Memory};
 use npp_outside::Shelf;
-use npp_reader::{ReadRefusal, read};
 use npp_report::write_fraction;
 use npp_stream::{FileRefusal, check_file};
 use npp_tree::Pair;
 use std::alloc::Global;
 use std::fmt::Write;
 
-/// The answer about the certificate in the file of this name, for the instance that the bytes stand for.
-pub fn check_on_bytes<S: Shelf>(
-    alloc: Global,
-    bytes: &[u8],
-    certificate: &str,
-    shelf: &mut S,
-) -> Result<Answer, Memory>
-    ensures held { S.held shelf.new ≡ S.held shelf.old }
-    ensures answer { IfOk result (λ answer. AnswersWithCertificate (S.held shelf.old) certificate.now bytes.now answer.status (answer_text answer)) }
-    ensures cause { IfOk result (λ answer. HasAnswerCause (S.faults shelf.old) (S.faults shelf.new) (S.misses shelf.old) (S.misses shelf.new) answer.status) }
-{
-    match read(alloc, bytes) {
-        Ok(document) => check_on_instance(alloc, &document.instance, certificate, shelf),
-        Err(ReadRefusal::Line { line, kind }) => faulty_line(alloc, line, kind.word()),
-        Err(ReadRefusal::Memory) => Err(Memory),
-    }
-}
-
-// The answer about the certificate in the file of this name, for an instance.
-//
-// A commodity without a toll-free walk is refused before the file is asked for.
-fn check_on_instance<S: Shelf>(
-    alloc: Global,
-    instance: &Instance,
-    certificate: &str,
-    shelf: &mut S,
-) -> Result<Answer, Memory>
-    ensures held { S.held shelf.new ≡ S.held shelf.old }
-    ensures answer { IfOk result (λ answer. AnswersChecked (S.held shelf.old) certificate.now instance.now answer.status (answer_text answer)) }
-    ensures cause { IfOk result (λ answer. HasAnswerCause (S.faults shelf.old) (S.faults shelf.new) (S.misses shelf.old) (S.misses shelf.new) answer.status) }
-{
-    match free_and_zero(alloc, instance) {
-        Ok(_spans) => check(alloc, instance, certificate, shelf),
-        Err(BoundsRefusal::NoFreePath(k)) => no_free_path(alloc, k),
-        Err(BoundsRefusal::Memory) => Err(Memory),
-    }
-}
-
-// The answer about the certificate in the file of this name, where each commodity has a toll-free walk.
-fn check<S: Shelf>(
+/// The answer about the certificate in the file of this name, where each commodity has a toll-free walk.
+pub fn check<S: Shelf>(
     alloc: Global,
     instance: &Instance,
     certificate: &str,
@@ -69,7 +29,7 @@ fn check<S: Shelf>(
 ) -> Result<Answer, Memory>
     requires { AllHaveFreePaths instance.now.arcs instance.now.commodities }
     ensures held { S.held shelf.new ≡ S.held shelf.old }
-    ensures answer { IfOk result (λ answer. AnswersHeld (AnswersCertificate instance.now certificate.now) (S.held shelf.old) certificate.now answer.status (answer_text answer)) }
+    ensures answer { IfOk result (λ answer. AnswersHeld (AnswersCheck instance.now certificate.now) (S.held shelf.old) certificate.now answer.status (answer_text answer)) }
     ensures cause { IfOk result (λ answer. HasAnswerCause (S.faults shelf.old) (S.faults shelf.new) (S.misses shelf.old) (S.misses shelf.new) answer.status) }
 {
     match check_file(alloc, instance, shelf, certificate) {
@@ -87,10 +47,7 @@ fn accepted(alloc: Global, pair: Pair) -> Result<Answer, Memory>
     write!(text, " upper ")?;
     write_fraction(alloc, &mut text, pair.upper)?;
     writeln!(text)?;
-    Ok(Answer {
-        status: 0,
-        output: Output::Text(text),
-    })
+    Ok(Answer::with_text(0, text))
 }
 
 // The file of this name is not accepted.
@@ -107,19 +64,16 @@ fn not_accepted(alloc: Global, name: &str, refusal: FileRefusal) -> Result<Answe
     }
 }
 
-// This is the first broken line of a certificate, and this the name of the first rule that it breaks.
-fn refused(alloc: Global, line: u64, rule: &str) -> Result<Answer, Memory>
+/// This is the first broken line of a certificate, and this the name of the first rule that it breaks.
+pub fn refused(alloc: Global, line: u64, rule: &str) -> Result<Answer, Memory>
     ensures { IfOk result (IsAnswer 9 (refused_certificate_text line rule.now)) }
 {
     let text = format!(in alloc; "refused certificate line {line} {rule}\n")?;
-    Ok(Answer {
-        status: 9,
-        output: Output::Text(text),
-    })
+    Ok(Answer::with_text(9, text))
 }
 
-// The name of a rule, with that of the fault where it is about a cover.
-fn rule_word(rule: Rule) -> &'static str
+/// The name of a rule, with that of the fault where it is about a cover.
+pub fn rule_word(rule: Rule) -> &'static str
     ensures { result.now ≡ rule_word rule }
 {
     match rule {

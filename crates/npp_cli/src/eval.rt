@@ -9,8 +9,8 @@ ghost use Rattle.npp_cli.specs.Answers.{AnswersFile, AnswersWithTolls, tolls_lim
 ghost use Rattle.npp_cli.specs.Runs.{HasAnswerCause};
 
 use crate::answers::{
-    Answer, Output, faulty_line, no_free_path, not_taken, refused_tolls, too_many_labels,
-    too_many_paths, too_wide,
+    Answer, faulty_line, no_free_path, not_taken, refused_tolls, too_many_labels, too_many_paths,
+    too_wide,
 };
 use crate::take::take_file;
 use npp_eval::{EvalRefusal, Evaluation, evaluate_text, evaluation_text};
@@ -73,10 +73,7 @@ fn replied(alloc: Global, evaluation: &Evaluation<Frac128>) -> Result<Answer, Me
     ensures { IfOk result (IsAnswer 0 (evaluation_text (evaluation_value value_of_wide evaluation.now))) }
 {
     let text = evaluation_text(alloc, evaluation)?;
-    Ok(Answer {
-        status: 0,
-        output: Output::Text(text),
-    })
+    Ok(Answer::with_text(0, text))
 }
 
 // Why it is not said what tolls earn.

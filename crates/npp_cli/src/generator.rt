@@ -7,7 +7,7 @@ ghost use Rattle.npp_cli.specs.Answer.{answer_text};
 ghost use Rattle.npp_cli.specs.Answers.{AnswersNumber};
 ghost use Rattle.npp_cli.specs.Generated.{spread, first_numbers, generated, generated_names, generated_arcs, generated_pairs, main_node, side_node, main_arc, side_arcs, ramp_arcs, side_pair, both_ways};
 
-use crate::answers::{Answer, Output};
+use crate::answers::Answer;
 use npp_net::{Commodity, Instance, Memory, NetArc, NetRefusal, NodeId};
 use npp_reader::{Document, Names, print};
 use std::alloc::Global;
@@ -51,10 +51,7 @@ pub fn answer_on_number(alloc: Global, number: u32) -> Result<Answer, Memory>
     ensures { IfOk result (λ answer. AnswersNumber number answer.status (answer_text answer)) }
 {
     let text = generated_text(alloc, number)?;
-    Ok(Answer {
-        status: 0,
-        output: Output::Text(text),
-    })
+    Ok(Answer::with_text(0, text))
 }
 
 // A number below `most`, which the instance's number and the place decide.

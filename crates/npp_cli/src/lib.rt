@@ -2,6 +2,7 @@
 #![tactic(auto)]
 
 mod answers;
+mod certificate;
 mod check;
 mod eval;
 mod generator;
@@ -10,6 +11,7 @@ mod program;
 mod solve;
 mod spans;
 mod take;
+mod upgrade;
 mod words;
 
 pub use generator::generate;

@@ -8,7 +8,7 @@ ghost use Rattle.npp_cli.specs.Listed.{IsListed, IsOverLimit};
 ghost use Rattle.npp_report.specs.Lines.{number_fields, numbered_lines};
 ghost use Rattle.npp_cli.specs.PathsText.{paths_text, commodity_lines, useful_line};
 
-use crate::answers::{Answer, Output, over_limit};
+use crate::answers::{Answer, over_limit};
 use npp_cover::{Cover, UsefulPath};
 use npp_labels::useful_all;
 use npp_net::{Instance, Memory, Span, TollSet};
@@ -36,10 +36,7 @@ fn listed(alloc: Global, covers: &[Cover]) -> Result<Answer, Memory>
 {
     let mut text = String::new(alloc);
     write_covers(&mut text, covers)?;
-    Ok(Answer {
-        status: 0,
-        output: Output::Text(text),
-    })
+    Ok(Answer::with_text(0, text))
 }
 
 // The lines of each commodity.

@@ -3,26 +3,28 @@ ghost use Rattle.std.specs.Prelude.{◌≡◌, ◌≤◌, ℕ, List, None, Some,
 ghost use Rattle.npp_outside.specs.Causes.{Rose};
 ghost use Rattle.npp_outside.specs.Shelf.{Files, file_at};
 ghost use Rattle.npp_net.specs.Network.{Network};
-ghost use Rattle.npp_bounds.specs.Spans.{AreSpans};
+ghost use Rattle.npp_bounds.specs.Spans.{AllHaveFreePaths, AreSpans};
 ghost use Rattle.npp_reader.specs.Canonical.{canonical_text};
 ghost use Rattle.npp_cli.specs.Generated.{generated};
 ghost use Rattle.npp_cli.specs.Texts.{usage_text};
 ghost use Rattle.npp_words.specs.Given.{texts};
-ghost use Rattle.npp_cli.specs.Words.{job_of, generate, demonstrate};
+ghost use Rattle.npp_cli.specs.Words.{job_of, on_file, evaluate, on_certificate, generate, demonstrate};
 ghost use Rattle.npp_cli.specs.Answer.{answer_text};
-ghost use Rattle.npp_cli.specs.Answers.{Answers, AnswersDemonstration, AnswersFile, AnswersInstance, AnswersOf, AnswersWithCertificate, AnswersWithTolls, IsDone, instance_limit};
-ghost use Rattle.npp_cli.specs.Claims.{IsGiven, IsAsked, IsGivenTolls, IsAskedTolls, IsGivenCertificate, IsAskedCertificate, NothingFailed, WasWritten, Prints, PrintsAbout, PrintsAboutTwo, PrintsOnCertificate, PrintsDemonstration, PrintsDone, PrintsEvaluation, PrintsVerdict};
+ghost use Rattle.npp_cli.specs.Answers.{Answers, AnswersContent, AnswersDemonstration, AnswersFile, AnswersInstance, AnswersOf, AnswersWithCertificate, AnswersWithTolls, IsDone, instance_limit, tolls_limit};
+ghost use Rattle.npp_cli.specs.Checked.{limit_for};
+ghost use Rattle.npp_cli.specs.Claims.{AnswersOnCertificate, AnswersTwoFiles, IsAsked, IsGiven, IsGivenTwo, NothingFailed, Prints, PrintsSaid, SaysVerdict, WasWritten};
+ghost use Rattle.npp_cli.specs.Evaluated.{AnswersTolls};
 ghost use Rattle.npp_cli.specs.Runs.{Runs, HasAnswerCause};
 
 use crate::answers::{Answer, faulty_line, no_free_path, not_taken, usage, write_output};
-use crate::check::check_on_bytes;
+use crate::certificate::certificate_on_bytes;
 use crate::eval::eval_on_bytes;
 use crate::generator::{answer_on_number, generated_text};
 use crate::paths::paths;
 use crate::solve::solve;
 use crate::spans::bounds;
 use crate::take::take_file;
-use crate::words::{Command, FileJob, command_of};
+use crate::words::{CertificateJob, Command, FileJob, command_of};
 use npp_bounds::{BoundsRefusal, free_and_zero};
 use npp_net::{Instance, Memory, Span};
 use npp_outside::{Shelf, Sink, SinkAnswer};
@@ -46,25 +48,29 @@ pub fn run<S: Shelf, O: Sink>(alloc: Global, words: &[String], shelf: &mut S, ou
 
     // What is printed of an instance is true of all walks and of all tolls.
     ensures headline { (job : FileJob) (net : Network) → IsGiven job (texts words.now) (S.held shelf.old) net
-        → NothingFailed result → PrintsDone job net (O.written out.old) (O.written out.new) result }
-    ensures evaluation { (net : Network) (tolls : List ℕ) → IsGivenTolls (texts words.now) (S.held shelf.old) net tolls
-        → NothingFailed result → PrintsEvaluation net tolls (O.written out.old) (O.written out.new) result }
+        → NothingFailed result → PrintsSaid (IsDone job net) (O.written out.old) (O.written out.new) result }
+    ensures evaluation { (net : Network) (tolls : List ℕ) → IsGivenTwo evaluate tolls_limit (texts words.now) (S.held shelf.old) net tolls
+        → NothingFailed result → PrintsSaid (AnswersTolls net tolls) (O.written out.old) (O.written out.new) result }
 
-    // A certificate is accepted exactly where its verdict is a pair, whoever wrote it, and then it proves both values.
-    ensures certificate { (net : Network) (certificate : List ℕ) → IsGivenCertificate (texts words.now) (S.held shelf.old) net certificate
-        → NothingFailed result → PrintsVerdict net certificate (O.written out.old) (O.written out.new) result }
+    // A certificate is accepted exactly where its verdict is a pair, whoever wrote it, and then it proves both values. An
+    // upgraded one is accepted with the same pair.
+    ensures certificate { (job : CertificateJob) (net : Network) (certificate : List ℕ)
+        → IsGivenTwo (on_certificate job) (limit_for job) (texts words.now) (S.held shelf.old) net certificate
+        → AllHaveFreePaths net.arcs net.commodities
+        → NothingFailed result → PrintsSaid (SaysVerdict job net certificate) (O.written out.old) (O.written out.new) result }
 
     // Each answer comes exactly by its cause, and its text is all that is written.
-    ensures on_file { (job : FileJob) (name : List ℕ) (files : Files) → IsAsked job name files (texts words.now) (S.held shelf.old)
-        → NothingFailed result → PrintsAbout job name (file_at files name) (O.written out.old) (O.written out.new) result }
-    ensures on_two_files { (name tolls : List ℕ) (files : Files) → IsAskedTolls name tolls files (texts words.now) (S.held shelf.old)
-        → NothingFailed result → PrintsAboutTwo name tolls (file_at files name) (file_at files tolls) (O.written out.old) (O.written out.new) result }
-    ensures on_certificate { (name certificate : List ℕ) (files : Files) → IsAskedCertificate name certificate files (texts words.now) (S.held shelf.old)
-        → NothingFailed result → PrintsOnCertificate name certificate (file_at files name) (file_at files certificate) (O.written out.old) (O.written out.new) result }
+    ensures on_file { (job : FileJob) (name : List ℕ) (files : Files) → IsAsked (on_file job name) files (texts words.now) (S.held shelf.old)
+        → NothingFailed result → PrintsSaid (AnswersContent (AnswersOf job) instance_limit name (file_at files name)) (O.written out.old) (O.written out.new) result }
+    ensures on_two_files { (name tolls : List ℕ) (files : Files) → IsAsked (evaluate name tolls) files (texts words.now) (S.held shelf.old)
+        → NothingFailed result → PrintsSaid (AnswersTwoFiles name tolls (file_at files name) (file_at files tolls)) (O.written out.old) (O.written out.new) result }
+    ensures on_certificate { (job : CertificateJob) (name certificate : List ℕ) (files : Files)
+        → IsAsked (on_certificate job name certificate) files (texts words.now) (S.held shelf.old)
+        → NothingFailed result → PrintsSaid (AnswersOnCertificate job name certificate (file_at files name) (file_at files certificate)) (O.written out.old) (O.written out.new) result }
     ensures generated { (number : ℕ) → job_of (texts words.now) ≡ Some (generate number)
         → WasWritten result → Prints (canonical_text (generated number)) 0 (O.written out.old) (O.written out.new) result }
     ensures demonstration { (number budget : ℕ) → job_of (texts words.now) ≡ Some (demonstrate number budget)
-        → WasWritten result → PrintsDemonstration number budget (O.written out.old) (O.written out.new) result }
+        → WasWritten result → PrintsSaid (AnswersDemonstration number budget) (O.written out.old) (O.written out.new) result }
     ensures usage { job_of (texts words.now) ≡ None
         → WasWritten result → Prints usage_text 2 (O.written out.old) (O.written out.new) result }
     ensures usage_only { result ≡ 2 → job_of (texts words.now) ≡ None }
@@ -92,8 +98,8 @@ fn answer_to<S: Shelf>(alloc: Global, words: &[String], shelf: &mut S) -> Result
         None => usage(alloc),
         Some(Command::OnFile(job, file)) => answer_on_file(alloc, job, file, shelf),
         Some(Command::Evaluate(file, tolls)) => answer_on_two_files(alloc, file, tolls, shelf),
-        Some(Command::Check(file, certificate)) => {
-            answer_on_certificate(alloc, file, certificate, shelf)
+        Some(Command::OnCertificate(job, file, certificate)) => {
+            answer_on_certificate(alloc, job, file, certificate, shelf)
         }
         Some(Command::Generate(number)) => answer_on_number(alloc, number),
         Some(Command::Demonstrate(number, budget)) => demonstrate(alloc, number, budget),
@@ -147,19 +153,20 @@ fn answer_on_two_files<S: Shelf>(
     }
 }
 
-// The answer about the certificate in one file for the instance of another.
+// The answer to a job for the instance of one file and the certificate in another.
 fn answer_on_certificate<S: Shelf>(
     alloc: Global,
+    job: CertificateJob,
     file: &str,
     certificate: &str,
     shelf: &mut S,
 ) -> Result<Answer, Memory>
     ensures held { S.held shelf.new ≡ S.held shelf.old }
-    ensures answer { IfOk result (λ answer. AnswersFile (AnswersWithCertificate (S.held shelf.old) certificate.now) instance_limit (S.held shelf.old) file.now answer.status (answer_text answer)) }
+    ensures answer { IfOk result (λ answer. AnswersFile (AnswersWithCertificate job (S.held shelf.old) certificate.now) instance_limit (S.held shelf.old) file.now answer.status (answer_text answer)) }
     ensures cause { IfOk result (λ answer. HasAnswerCause (S.faults shelf.old) (S.faults shelf.new) (S.misses shelf.old) (S.misses shelf.new) answer.status) }
 {
     match take_file(alloc, shelf, file, INSTANCE_LIMIT) {
-        Ok(bytes) => check_on_bytes(alloc, &bytes, certificate, shelf),
+        Ok(bytes) => certificate_on_bytes(alloc, job, &bytes, certificate, shelf),
         Err(refusal) => not_taken(alloc, file, refusal),
     }
 }

@@ -6,7 +6,7 @@ ghost use Rattle.npp_cli.specs.Answers.{IsBounded};
 ghost use Rattle.npp_report.specs.Lines.{numbered_lines};
 ghost use Rattle.npp_cli.specs.SpansText.{span_line};
 
-use crate::answers::{Answer, Output};
+use crate::answers::Answer;
 use npp_bounds::basic_bound;
 use npp_net::{Instance, Memory, Span};
 use std::alloc::Global;
@@ -22,10 +22,7 @@ pub fn bounds(alloc: Global, instance: &Instance, spans: &[Span]) -> Result<Answ
     let mut text = String::new(alloc);
     write_spans(&mut text, spans)?;
     writeln!(text, "basic {}", basic_bound(instance, spans))?;
-    Ok(Answer {
-        status: 0,
-        output: Output::Text(text),
-    })
+    Ok(Answer::with_text(0, text))
 }
 
 // One line for each commodity.

@@ -25,6 +25,15 @@ pub enum FileJob {
     Paths,
 }
 
+/// What is asked of the certificate in a file, for the instance in another.
+#[derive(Clone, Copy, Debug, PartialEq, Eq)]
+pub enum CertificateJob {
+    /// Whether it is accepted, and which two values it then proves.
+    Check,
+    /// The certificate in the second form, which names the instance.
+    Upgrade,
+}
+
 /// A job, with the words that say for what it is done.
 #[derive(Clone, Copy)]
 pub enum Command<'w> {
@@ -32,8 +41,8 @@ pub enum Command<'w> {
     OnFile(FileJob, &'w str),
     /// What the tolls of the second file earn in the instance of the first.
     Evaluate(&'w str, &'w str),
-    /// Whether the second file is a certificate for the instance of the first, and what it proves.
-    Check(&'w str, &'w str),
+    /// A job for the instance in the first file and the certificate in the second.
+    OnCertificate(CertificateJob, &'w str, &'w str),
     /// The generated instance of this number.
     Generate(u32),
     /// What a search of so many nodes finds of the generated instance of this number, which stands first.
@@ -122,7 +131,10 @@ fn command_for_two<'w>(job: &str, first: &'w str, second: &'w str) -> Option<Com
         return Some(Command::Evaluate(first, second));
     }
     if job == "check" {
-        return Some(Command::Check(first, second));
+        return Some(Command::OnCertificate(CertificateJob::Check, first, second));
+    }
+    if job == "upgrade" {
+        return Some(Command::OnCertificate(CertificateJob::Upgrade, first, second));
     }
     None
 }

@@ -1,6 +1,8 @@
 //! Runs of `check`, on an instance and a certificate.
 
-use crate::fixtures::{THREE_PAIRS, TWO_ROADS, TWO_ROADS_CERTIFICATE, two_files, words};
+use crate::fixtures::{
+    CEILING, THREE_PAIRS, TWO_ROADS, TWO_ROADS_CERTIFICATE, expect_run, two_files, words,
+};
 use npp_cli::run;
 use npp_outside::{MemoryShelf, MemorySink, SureShelf, SureSink};
 use std::alloc::Global;
@@ -20,12 +22,8 @@ fn expect(
     status: u8,
     written: &str,
 ) -> Result<(), Fail> {
-    let mut shelf = two_files(instance, "certificate", certificate);
-    let mut out = SureSink::new(alloc);
-    let words = words(alloc, "check file certificate")?;
-    assert_eq!(rt; run(alloc, &words, &mut shelf, &mut out), status);
-    assert_eq!(rt; out.written(), written.as_bytes());
-    Ok(())
+    let shelf = two_files(instance, "certificate", certificate);
+    expect_run(rt, alloc, "check file certificate", shelf, status, written)
 }
 
 // The lines of a text, of which those from one number to another, both counted from 1, are replaced by others.
@@ -152,12 +150,63 @@ fn other_refusals(rt: HostRuntime) -> Result<(), Fail> {
     for (instance, status, written) in rows {
         expect(&rt, rt.alloc(), instance, b"", status, written)?;
     }
+    let files = two_files(TWO_ROADS, "certificate", b"");
+    let missing = "check file none";
+    expect_run(&rt, rt.alloc(), missing, files, 4, "missing none\n")
+}
+
+// The shelf gives 40 bytes of the certificate, one a call, and then fails: a line that is broken before is named.
+#[test]
+fn a_line_is_judged_before_more_is_asked_for(rt: HostRuntime) -> Result<(), Fail> {
     let alloc = rt.alloc();
-    let mut shelf = two_files(TWO_ROADS, "certificate", b"");
+    let spoiled = changed(alloc, TWO_ROADS_CERTIFICATE, 1, 1, "npp-certificate 3\n")?;
+    let rows = [
+        (spoiled.as_str(), 9, "refused certificate line 1 Text\n"),
+        (TWO_ROADS_CERTIFICATE, 5, "shelf fault c\n"),
+    ];
+    for (certificate, status, written) in rows {
+        let mut files = two_files(TWO_ROADS, "c", certificate.as_bytes());
+        files.good = 40;
+        expect_run(&rt, alloc, "check file c", files, status, written)?;
+    }
+    Ok(())
+}
+
+// A toll above its ceiling in the certificate that `solve` prints, and that certificate for the roads without a ceiling.
+#[test]
+fn a_ceiling(rt: HostRuntime) -> Result<(), Fail> {
+    let alloc = rt.alloc();
+    let mut shelf = two_files(CEILING, "certificate", b"");
     let mut out = SureSink::new(alloc);
-    let missing = words(alloc, "check file none")?;
-    assert_eq!(rt; run(alloc, &missing, &mut shelf, &mut out), 4);
-    assert_eq!(rt; out.written(), b"missing none\n".as_slice());
+    let solve_words = words(alloc, "solve file")?;
+    assert_eq!(rt; run(alloc, &solve_words, &mut shelf, &mut out), 0);
+    let certificate = std::str::from_utf8(out.written())?;
+    let above = changed(alloc, certificate, 9, 9, "toll 0 4\n")?;
+    let rows = [
+        (CEILING, certificate, 0, "accepted lower 15 upper 15\n"),
+        (
+            CEILING,
+            above.as_str(),
+            9,
+            "refused certificate line 9 Tolls\n",
+        ),
+        (
+            TWO_ROADS,
+            certificate,
+            9,
+            "refused certificate line 8 Instance\n",
+        ),
+    ];
+    for (instance, certificate, status, written) in rows {
+        expect(
+            &rt,
+            alloc,
+            instance,
+            certificate.as_bytes(),
+            status,
+            written,
+        )?;
+    }
     Ok(())
 }
 

@@ -57,141 +57,152 @@ fn expect(
     )
 }
 
+const SAME_COST: &str = "npp 1\nnode a\nnode b\nfree a b 10\ntoll a b 2\ntoll a b 2\npair a b 4\n";
+
+const CYCLE: &str =
+    "npp 1\nnode a\nnode b\nnode c\nfree a b 10\ntoll a b 2\nfree a c 0\ntoll c a 0\npair a b 5\n";
+
+const NO_TOLLS: &str = "npp 1\nnode a\nnode b\nfree a b 4\npair a b 1\n";
+
+const REPLIES_ROWS: &[(&str, &str, &str)] = &[
+    (
+        TWO_TOLLS,
+        "toll 0 8\ntoll 1 5\n",
+        "revenue 5\npath 0 4 5 2\n",
+    ),
+    (
+        TWO_TOLLS,
+        "toll 0 8\ntoll 1 6\n",
+        "revenue 8\npath 0 2 8 1\n",
+    ),
+    (
+        TWO_TOLLS,
+        "toll 0 1/2\ntoll 1 0\n",
+        "revenue 1/2\npath 0 2 1/2 1\n",
+    ),
+    (
+        TWO_TOLLS,
+        "toll 0 9\ntoll 1 7\n",
+        "revenue 0\npath 0 10 0 0\n",
+    ),
+    (
+        SAME_COST,
+        "toll 0 3\ntoll 1 3\n",
+        "revenue 12\npath 0 2 3 1\n",
+    ),
+    (
+        SAME_COST,
+        "toll 0 4\ntoll 1 3\n",
+        "revenue 12\npath 0 2 3 2\n",
+    ),
+    (CYCLE, "toll 0 8\ntoll 1 0\n", "revenue 40\npath 0 2 8 1\n"),
+    (CYCLE, "toll 0 8\ntoll 1 1\n", "revenue 40\npath 0 2 8 1\n"),
+    (NO_TOLLS, "", "revenue 0\npath 0 4 0 0\n"),
+    (
+        THREE_PAIRS,
+        "toll 0 3\n",
+        "revenue 15\npath 0 2 3 1 0\npath 1 2 3 3 0\npath 2 2 3 5 0\n",
+    ),
+    (
+        THREE_PAIRS,
+        "toll 0 6\n",
+        "revenue 12\npath 0 2 6 1 0\npath 1 2 6 3 0\npath 2 5 0 6\n",
+    ),
+    (
+        THREE_PAIRS,
+        "toll 0 13/2\n",
+        "revenue 13/2\npath 0 2 13/2 1 0\npath 1 8 0 4\npath 2 5 0 6\n",
+    ),
+    (
+        RING,
+        "toll 0 1/2\ntoll 1 1/2\ntoll 2 1/2\n",
+        "revenue 3\npath 0 0 1 0 1\npath 1 0 1 1 2\npath 2 0 1 2 0\n",
+    ),
+    (
+        RING,
+        "toll 0 1\ntoll 1 0\ntoll 2 0\n",
+        "revenue 2\npath 0 0 1 0 1\npath 1 0 0 1 2\npath 2 0 1 2 0\n",
+    ),
+];
+
 // Ties are for the leader, and then for the path of the least number.
 #[test]
 fn replies(rt: HostRuntime) -> Result<(), Fail> {
-    let same_cost = "npp 1\nnode a\nnode b\nfree a b 10\ntoll a b 2\ntoll a b 2\npair a b 4\n";
-    let cycle =
-        "npp 1\nnode a\nnode b\nnode c\nfree a b 10\ntoll a b 2\nfree a c 0\ntoll c a 0\npair a b 5\n";
-    let no_tolls = "npp 1\nnode a\nnode b\nfree a b 4\npair a b 1\n";
-    let rows = [
-        (
-            TWO_TOLLS,
-            "toll 0 8\ntoll 1 5\n",
-            "revenue 5\npath 0 4 5 2\n",
-        ),
-        (
-            TWO_TOLLS,
-            "toll 0 8\ntoll 1 6\n",
-            "revenue 8\npath 0 2 8 1\n",
-        ),
-        (
-            TWO_TOLLS,
-            "toll 0 1/2\ntoll 1 0\n",
-            "revenue 1/2\npath 0 2 1/2 1\n",
-        ),
-        (
-            TWO_TOLLS,
-            "toll 0 9\ntoll 1 7\n",
-            "revenue 0\npath 0 10 0 0\n",
-        ),
-        (
-            same_cost,
-            "toll 0 3\ntoll 1 3\n",
-            "revenue 12\npath 0 2 3 1\n",
-        ),
-        (
-            same_cost,
-            "toll 0 4\ntoll 1 3\n",
-            "revenue 12\npath 0 2 3 2\n",
-        ),
-        (cycle, "toll 0 8\ntoll 1 0\n", "revenue 40\npath 0 2 8 1\n"),
-        (cycle, "toll 0 8\ntoll 1 1\n", "revenue 40\npath 0 2 8 1\n"),
-        (no_tolls, "", "revenue 0\npath 0 4 0 0\n"),
-        (
-            THREE_PAIRS,
-            "toll 0 3\n",
-            "revenue 15\npath 0 2 3 1 0\npath 1 2 3 3 0\npath 2 2 3 5 0\n",
-        ),
-        (
-            THREE_PAIRS,
-            "toll 0 6\n",
-            "revenue 12\npath 0 2 6 1 0\npath 1 2 6 3 0\npath 2 5 0 6\n",
-        ),
-        (
-            THREE_PAIRS,
-            "toll 0 13/2\n",
-            "revenue 13/2\npath 0 2 13/2 1 0\npath 1 8 0 4\npath 2 5 0 6\n",
-        ),
-        (
-            RING,
-            "toll 0 1/2\ntoll 1 1/2\ntoll 2 1/2\n",
-            "revenue 3\npath 0 0 1 0 1\npath 1 0 1 1 2\npath 2 0 1 2 0\n",
-        ),
-        (
-            RING,
-            "toll 0 1\ntoll 1 0\ntoll 2 0\n",
-            "revenue 2\npath 0 0 1 0 1\npath 1 0 0 1 2\npath 2 0 1 2 0\n",
-        ),
-    ];
-    for (instance, lines, written) in rows {
+    for row in REPLIES_ROWS {
+        let (instance, lines, written) = *row;
         let tolls = format!(in rt.alloc(); "npp-tolls 1\n{lines}")?;
         expect(&rt, rt.alloc(), instance, tolls.as_str(), 0, written)?;
     }
     Ok(())
 }
 
+const REFUSED_LINES_ROWS: &[(&str, u32)] = &[
+    ("", 1),
+    ("npp-tolls 1", 1),
+    ("npp-tolls 2\ntoll 0 8\ntoll 1 5\n", 1),
+    ("npp-tolls 1\r\ntoll 0 8\ntoll 1 5\n", 1),
+    ("npp-tolls  1\ntoll 0 8\ntoll 1 5\n", 1),
+    ("\nnpp-tolls 1\ntoll 0 8\ntoll 1 5\n", 1),
+    ("npp-tolls 1\n", 2),
+    ("npp-tolls 1\ntoll 0 8", 2),
+    ("npp-tolls 1\ntoll 0 16/2\ntoll 1 5\n", 2),
+    ("npp-tolls 1\ntoll 0 8/1\ntoll 1 5\n", 2),
+    ("npp-tolls 1\ntoll 0 -1\ntoll 1 5\n", 2),
+    ("npp-tolls 1\ntoll 0 -0\ntoll 1 5\n", 2),
+    ("npp-tolls 1\ntoll 0 +8\ntoll 1 5\n", 2),
+    ("npp-tolls 1\ntoll 0 08\ntoll 1 5\n", 2),
+    ("npp-tolls 1\ntoll 0 8.5\ntoll 1 5\n", 2),
+    ("npp-tolls 1\ntoll 00 8\ntoll 1 5\n", 2),
+    ("npp-tolls 1\ntoll 0  8\ntoll 1 5\n", 2),
+    ("npp-tolls 1\ntoll 0 8 \ntoll 1 5\n", 2),
+    ("npp-tolls 1\n\ntoll 0 8\ntoll 1 5\n", 2),
+    ("npp-tolls 1\ntoll 1 5\ntoll 0 8\n", 2),
+    (
+        "npp-tolls 1\ntoll 0 170141183460469231731687303715884105728\ntoll 1 5\n",
+        2,
+    ),
+    ("npp-tolls 1\ntoll 0 8\n", 3),
+    ("npp-tolls 1\ntoll 0 8\ntoll 1 5", 3),
+    ("npp-tolls 1\ntoll 0 8\ntoll 0 5\n", 3),
+    ("npp-tolls 1\ntoll 0 8\ntoll 2 5\n", 3),
+    ("npp-tolls 1\ntoll 0 8\ntoll 1 5\n\n", 4),
+    ("npp-tolls 1\ntoll 0 8\ntoll 1 5\nx", 4),
+    ("npp-tolls 1\ntoll 0 8\ntoll 1 5\ntoll 2 0\n", 4),
+];
+
 // Each text has a line that may not stand where it does.
 #[test]
 fn refused_lines(rt: HostRuntime) -> Result<(), Fail> {
-    let rows = [
-        ("", 1),
-        ("npp-tolls 1", 1),
-        ("npp-tolls 2\ntoll 0 8\ntoll 1 5\n", 1),
-        ("npp-tolls 1\r\ntoll 0 8\ntoll 1 5\n", 1),
-        ("npp-tolls  1\ntoll 0 8\ntoll 1 5\n", 1),
-        ("\nnpp-tolls 1\ntoll 0 8\ntoll 1 5\n", 1),
-        ("npp-tolls 1\n", 2),
-        ("npp-tolls 1\ntoll 0 8", 2),
-        ("npp-tolls 1\ntoll 0 16/2\ntoll 1 5\n", 2),
-        ("npp-tolls 1\ntoll 0 8/1\ntoll 1 5\n", 2),
-        ("npp-tolls 1\ntoll 0 -1\ntoll 1 5\n", 2),
-        ("npp-tolls 1\ntoll 0 -0\ntoll 1 5\n", 2),
-        ("npp-tolls 1\ntoll 0 +8\ntoll 1 5\n", 2),
-        ("npp-tolls 1\ntoll 0 08\ntoll 1 5\n", 2),
-        ("npp-tolls 1\ntoll 0 8.5\ntoll 1 5\n", 2),
-        ("npp-tolls 1\ntoll 00 8\ntoll 1 5\n", 2),
-        ("npp-tolls 1\ntoll 0  8\ntoll 1 5\n", 2),
-        ("npp-tolls 1\ntoll 0 8 \ntoll 1 5\n", 2),
-        ("npp-tolls 1\n\ntoll 0 8\ntoll 1 5\n", 2),
-        ("npp-tolls 1\ntoll 1 5\ntoll 0 8\n", 2),
-        (
-            "npp-tolls 1\ntoll 0 170141183460469231731687303715884105728\ntoll 1 5\n",
-            2,
-        ),
-        ("npp-tolls 1\ntoll 0 8\n", 3),
-        ("npp-tolls 1\ntoll 0 8\ntoll 1 5", 3),
-        ("npp-tolls 1\ntoll 0 8\ntoll 0 5\n", 3),
-        ("npp-tolls 1\ntoll 0 8\ntoll 2 5\n", 3),
-        ("npp-tolls 1\ntoll 0 8\ntoll 1 5\n\n", 4),
-        ("npp-tolls 1\ntoll 0 8\ntoll 1 5\nx", 4),
-        ("npp-tolls 1\ntoll 0 8\ntoll 1 5\ntoll 2 0\n", 4),
-    ];
-    for (tolls, line) in rows {
+    for row in REFUSED_LINES_ROWS {
+        let (tolls, line) = *row;
         let written = format!(in rt.alloc(); "refused tolls line {line}\n")?;
         expect(&rt, rt.alloc(), TWO_TOLLS, tolls, 9, written.as_str())?;
     }
     Ok(())
 }
 
+const REFUSED: &str = "refused tolls line 2\n";
+
+const FREE: &str = "revenue 0\npath 0 10 0 0\n";
+
+const CEILINGS_ROWS: &[(&str, &str, u8, &str)] = &[
+    ("3", "3", 0, "revenue 15\npath 0 2 3 1\n"),
+    ("3", "5/2", 0, "revenue 25/2\npath 0 2 5/2 1\n"),
+    ("3", "4", 9, REFUSED),
+    ("3", "7/2", 9, REFUSED),
+    ("20", "8", 0, "revenue 40\npath 0 2 8 1\n"),
+    ("20", "20", 0, FREE),
+    ("20", "21", 9, REFUSED),
+    ("-", "21", 0, FREE),
+    ("0", "0", 0, "revenue 0\npath 0 2 0 1\n"),
+    ("0", "1/2", 9, REFUSED),
+];
+
 // A toll may be as great as its ceiling, and no greater.
 #[test]
 fn ceilings(rt: HostRuntime) -> Result<(), Fail> {
-    let refused = "refused tolls line 2\n";
-    let free = "revenue 0\npath 0 10 0 0\n";
-    let rows = [
-        ("3", "3", 0, "revenue 15\npath 0 2 3 1\n"),
-        ("3", "5/2", 0, "revenue 25/2\npath 0 2 5/2 1\n"),
-        ("3", "4", 9, refused),
-        ("3", "7/2", 9, refused),
-        ("20", "8", 0, "revenue 40\npath 0 2 8 1\n"),
-        ("20", "20", 0, free),
-        ("20", "21", 9, refused),
-        ("-", "21", 0, free),
-        ("0", "0", 0, "revenue 0\npath 0 2 0 1\n"),
-        ("0", "1/2", 9, refused),
-    ];
-    for (ceiling, toll, status, written) in rows {
+    for row in CEILINGS_ROWS {
+        let (ceiling, toll, status, written) = *row;
         let instance = format!(in rt.alloc();
             "npp 2\nnode a\nnode b\nfree a b 10\ntoll a b 2 {ceiling}\npair a b 5\n"
         )?;
@@ -208,35 +219,41 @@ fn ceilings(rt: HostRuntime) -> Result<(), Fail> {
     Ok(())
 }
 
+const MOST: &str = "170141183460469231731687303715884105727";
+
+const COST_0: &str = "npp 1\nnode a\nnode b\nfree a b 10\ntoll a b 0\npair a b 5\n";
+
+const SECOND: &str =
+    "npp 1\nnode a\nnode b\nnode c\nnode d\nfree a b 1\nfree c d 10\ntoll c d 1\npair a b 1\npair c d 1\n";
+
+const BOTH: &str =
+    "npp 1\nnode a\nnode b\nnode c\nnode d\nfree a b 10\ntoll a b 0\nfree c d 10\ntoll c d 0\npair a b 5\npair c d 1\n";
+
+const NUMBERS_THAT_DO_NOT_FIT_ROWS: &[(&str, &str, &str, u8, &str)] = &[
+    (TWO_TOLLS, MOST, "toll 1 5\n", 8, "refused overflow 0\n"),
+    (SECOND, MOST, "", 8, "refused overflow 1\n"),
+    (COST_0, MOST, "", 0, "revenue 0\npath 0 10 0 0\n"),
+    (
+        COST_0,
+        "1/170141183460469231731687303715884105727",
+        "",
+        0,
+        "revenue 5/170141183460469231731687303715884105727\npath 0 0 1/170141183460469231731687303715884105727 1\n",
+    ),
+    (
+        BOTH,
+        "1/170141183460469231731687303715884105727",
+        "toll 1 1\n",
+        8,
+        "refused overflow 1\n",
+    ),
+];
+
 // The greatest number of 128 bits is 2^127 - 1. With 0 each sum fits, and by its number each product with a whole one.
 #[test]
 fn numbers_that_do_not_fit(rt: HostRuntime) -> Result<(), Fail> {
-    let most = "170141183460469231731687303715884105727";
-    let cost_0 = "npp 1\nnode a\nnode b\nfree a b 10\ntoll a b 0\npair a b 5\n";
-    let second =
-        "npp 1\nnode a\nnode b\nnode c\nnode d\nfree a b 1\nfree c d 10\ntoll c d 1\npair a b 1\npair c d 1\n";
-    let both =
-        "npp 1\nnode a\nnode b\nnode c\nnode d\nfree a b 10\ntoll a b 0\nfree c d 10\ntoll c d 0\npair a b 5\npair c d 1\n";
-    let rows = [
-        (TWO_TOLLS, most, "toll 1 5\n", 8, "refused overflow 0\n"),
-        (second, most, "", 8, "refused overflow 1\n"),
-        (cost_0, most, "", 0, "revenue 0\npath 0 10 0 0\n"),
-        (
-            cost_0,
-            "1/170141183460469231731687303715884105727",
-            "",
-            0,
-            "revenue 5/170141183460469231731687303715884105727\npath 0 0 1/170141183460469231731687303715884105727 1\n",
-        ),
-        (
-            both,
-            "1/170141183460469231731687303715884105727",
-            "toll 1 1\n",
-            8,
-            "refused overflow 1\n",
-        ),
-    ];
-    for (instance, toll, rest, status, written) in rows {
+    for row in NUMBERS_THAT_DO_NOT_FIT_ROWS {
+        let (instance, toll, rest, status, written) = *row;
         let tolls = format!(in rt.alloc(); "npp-tolls 1\ntoll 0 {toll}\n{rest}")?;
         expect(&rt, rt.alloc(), instance, tolls.as_str(), status, written)?;
     }
@@ -252,16 +269,19 @@ fn equal_tolls(alloc: Global, count: u32, toll: &str) -> Result<String, Fail> {
     Ok(text)
 }
 
+const OVER_A_LIMIT_MOST: &str = "170141183460469231731687303715884105727";
+
+const OVER_A_LIMIT_ROWS: &[(u32, &str, u8, &str)] = &[
+    (11, "1", 11, "refused too-many-paths 0\n"),
+    (11, OVER_A_LIMIT_MOST, 11, "refused too-many-paths 0\n"),
+    (11, "-1", 9, "refused tolls line 2\n"),
+];
+
 // 11 links have 2,048 useful paths. A limit is judged after the tolls, and before numbers.
 #[test]
 fn over_a_limit(rt: HostRuntime) -> Result<(), Fail> {
-    let most = "170141183460469231731687303715884105727";
-    let rows = [
-        (11, "1", 11, "refused too-many-paths 0\n"),
-        (11, most, 11, "refused too-many-paths 0\n"),
-        (11, "-1", 9, "refused tolls line 2\n"),
-    ];
-    for (links, toll, status, written) in rows {
+    for row in OVER_A_LIMIT_ROWS {
+        let (links, toll, status, written) = *row;
         let instance = chain(rt.alloc(), links)?;
         let tolls = equal_tolls(rt.alloc(), links, toll)?;
         expect(
@@ -291,48 +311,53 @@ fn as_many_toll_arcs_as_there_may_be(rt: HostRuntime) -> Result<(), Fail> {
     expect(&rt, alloc, instance.as_str(), tolls.as_str(), 0, written)
 }
 
+const GOOD: &str = "npp-tolls 1\ntoll 0 3\n";
+
+const SHORT: &str = "npp-tolls 1\n";
+
+const NO_PAIR: &str = "refused instance line 2 NoCommodity\n";
+
+const ORDER_OF_REFUSALS_ROWS: &[(&str, &str, &str, &str, &str, u8, &str)] = &[
+    ("eval", "none", "tolls", "", GOOD, 4, "missing none\n"),
+    (
+        "eval",
+        "file",
+        "none",
+        TOLLS_ONLY,
+        GOOD,
+        4,
+        "missing none\n",
+    ),
+    ("eval", "file", "none", "npp 1\n", GOOD, 3, NO_PAIR),
+    (
+        "eval",
+        "file",
+        "tolls",
+        TOLLS_ONLY,
+        SHORT,
+        9,
+        "refused tolls line 2\n",
+    ),
+    (
+        "eval",
+        "file",
+        "tolls",
+        TOLLS_ONLY,
+        GOOD,
+        10,
+        "refused no-free-path 0\n",
+    ),
+    ("eval", "-x", "tolls", TOLLS_ONLY, GOOD, 2, USAGE),
+    ("eval", "file", "--tolls", TOLLS_ONLY, GOOD, 2, USAGE),
+    ("price", "file", "tolls", TOLLS_ONLY, GOOD, 2, USAGE),
+    ("solve", "file", "tolls", TOLLS_ONLY, GOOD, 2, USAGE),
+];
+
 // The first cause is named: the instance before the tolls, these before what the instance lacks.
 #[test]
 fn order_of_refusals(rt: HostRuntime) -> Result<(), Fail> {
-    let good = "npp-tolls 1\ntoll 0 3\n";
-    let short = "npp-tolls 1\n";
-    let no_pair = "refused instance line 2 NoCommodity\n";
-    let rows = [
-        ("eval", "none", "tolls", "", good, 4, "missing none\n"),
-        (
-            "eval",
-            "file",
-            "none",
-            TOLLS_ONLY,
-            good,
-            4,
-            "missing none\n",
-        ),
-        ("eval", "file", "none", "npp 1\n", good, 3, no_pair),
-        (
-            "eval",
-            "file",
-            "tolls",
-            TOLLS_ONLY,
-            short,
-            9,
-            "refused tolls line 2\n",
-        ),
-        (
-            "eval",
-            "file",
-            "tolls",
-            TOLLS_ONLY,
-            good,
-            10,
-            "refused no-free-path 0\n",
-        ),
-        ("eval", "-x", "tolls", TOLLS_ONLY, good, 2, USAGE),
-        ("eval", "file", "--tolls", TOLLS_ONLY, good, 2, USAGE),
-        ("price", "file", "tolls", TOLLS_ONLY, good, 2, USAGE),
-        ("solve", "file", "tolls", TOLLS_ONLY, good, 2, USAGE),
-    ];
-    for (job, first, second, instance, tolls, status, written) in rows {
+    for row in ORDER_OF_REFUSALS_ROWS {
+        let (job, first, second, instance, tolls, status, written) = *row;
         let words = [job, first, second];
         let files = with_tolls(instance, tolls);
         expect_words(&rt, rt.alloc(), &words, files, status, written)?;
@@ -352,7 +377,7 @@ fn too_few_and_too_many_words(rt: HostRuntime) -> Result<(), Fail> {
 #[test]
 fn a_shelf_that_fails_at_the_tolls(rt: HostRuntime) -> Result<(), Fail> {
     let mut shelf = with_tolls(TOLLS_ONLY, "");
-    shelf.fails = true;
+    shelf.good = 0;
     let words = ["eval", "file", "tolls"];
     expect_words(&rt, rt.alloc(), &words, shelf, 5, "shelf fault tolls\n")
 }

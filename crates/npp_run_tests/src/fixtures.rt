@@ -2,9 +2,11 @@
 
 ghost use Rattle.std.specs.Prelude.{None};
 
-use npp_outside::{Shelf, ShelfAnswer};
+use npp_cli::run;
+use npp_outside::{Shelf, ShelfAnswer, SureSink};
 use std::alloc::Global;
 use std::fmt::Write;
+use std::process::Abort;
 use std::test::Fail;
 
 /// A toll-free arc and a toll arc beside it.
@@ -13,6 +15,9 @@ pub const TWO_ROADS: &str = "npp 1\nnode a\nnode b\nfree a b 10\ntoll a b 2\npai
 /// The certificate of these: the root is not opened.
 pub const TWO_ROADS_CERTIFICATE: &str =
     "npp-certificate 1\nstatus optimal\nwidth 64\nlower 40\nupper 40\nopened 0\ntoll 0 8\npath 0 2 8 1\ncover 0 2\nstart\nstep 0 1\nfree 0\ncuts 0\ntree\nopen\nend\n";
+
+/// The same two roads, where the toll is at most 3.
+pub const CEILING: &str = "npp 2\nnode a\nnode b\nfree a b 10\ntoll a b 2 3\npair a b 5\n";
 
 /// One toll arc that three commodities may use, each with a toll-free arc of its own.
 pub const THREE_PAIRS: &str =
@@ -24,7 +29,7 @@ pub const RING: &str =
 
 /// What is written where the words are no job.
 pub const USAGE: &str =
-    "usage: npp solve FILE [--budget N] [--cuts N] [--numbers W] [--brief]\n       npp check FILE CERTIFICATE\n       npp bounds FILE\n       npp paths FILE\n       npp eval FILE TOLLS\n       npp gen NUMBER\n       npp demo NUMBER [--budget N] [--cuts N] [--numbers W]\n";
+    "usage: npp solve FILE [--budget N] [--cuts N] [--numbers W] [--brief]\n       npp check FILE CERTIFICATE\n       npp bounds FILE\n       npp paths FILE\n       npp eval FILE TOLLS\n       npp gen NUMBER\n       npp demo NUMBER [--budget N] [--cuts N] [--numbers W]\n       npp upgrade FILE CERTIFICATE\n";
 
 /// So many links in a row, each a toll-free arc of cost 1 beside a toll arc of cost 0.
 pub fn chain(alloc: Global, links: u32) -> Result<String, Fail> {
@@ -50,8 +55,8 @@ pub fn words(alloc: Global, line: &str) -> Result<Vec<String>, Fail> {
     Ok(words)
 }
 
-/// Holds an instance as `file` and other bytes under another name, gives one byte a call, and fails at these where it is
-/// said to.
+/// Holds an instance as `file` and other bytes under another name, gives one byte a call, and fails once it has given so
+/// many of these.
 #[derive(Drop)]
 pub struct TwoFiles<'t> {
     /// The instance.
@@ -60,8 +65,8 @@ pub struct TwoFiles<'t> {
     pub name: &'t str,
     /// The other bytes.
     pub bytes: &'t [u8],
-    /// Whether it fails at these.
-    pub fails: bool,
+    /// How many of these it gives before it fails.
+    pub good: u64,
     /// How often it failed.
     pub faults: u64,
     /// How often it held no file of the name.
@@ -77,7 +82,7 @@ impl<'t> Shelf for TwoFiles<'t> {
 
     fn piece(&mut self, name: &str, at: u64, into: &mut [u8]) -> Result<usize, ShelfAnswer> {
         let is_other = name == self.name;
-        if is_other && self.fails {
+        if is_other && at >= self.good {
             self.faults = self.faults.saturating_add(1);
             return Err(ShelfAnswer::Failed);
         }
@@ -98,13 +103,29 @@ impl<'t> Shelf for TwoFiles<'t> {
     }
 }
 
+/// A run on these words: its status and what is written are these.
+pub fn expect_run(
+    rt: &impl Abort,
+    alloc: Global,
+    line: &str,
+    mut shelf: TwoFiles<'_>,
+    status: u8,
+    written: &str,
+) -> Result<(), Fail> {
+    let mut out = SureSink::new(alloc);
+    let words = words(alloc, line)?;
+    assert_eq!(rt; run(alloc, &words, &mut shelf, &mut out), status);
+    assert_eq!(rt; out.written(), written.as_bytes());
+    Ok(())
+}
+
 /// These two files, and no failure.
 pub fn two_files<'t>(instance: &'t str, name: &'t str, bytes: &'t [u8]) -> TwoFiles<'t> {
     TwoFiles {
         instance,
         name,
         bytes,
-        fails: false,
+        good: u64::MAX,
         faults: 0,
         misses: 0,
     }

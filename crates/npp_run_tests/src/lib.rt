@@ -9,3 +9,5 @@ mod eval;
 mod fixtures;
 #[cfg(test)]
 mod runs;
+#[cfg(test)]
+mod upgrade;

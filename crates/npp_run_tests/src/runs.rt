@@ -93,48 +93,50 @@ fn expect(
     Ok(())
 }
 
+const REPORTS_ROWS: &[(&str, u8, &str)] = &[
+    (TWO_ROADS, 0, TWO_ROADS_REPORT),
+    (TWO_ROADS_WITH_BLANKS, 0, TWO_ROADS_REPORT),
+    (
+        TWO_PAIRS,
+        0,
+        "npp-certificate 1\nstatus optimal\nwidth 64\nlower 12\nupper 12\nopened 1\ntoll 0 3\npath 0 2 3 1 0\npath 1 2 3 3 0\n",
+    ),
+    (
+        THREE_PAIRS,
+        0,
+        "npp-certificate 1\nstatus optimal\nwidth 64\nlower 15\nupper 15\nopened 2\ntoll 0 3\npath 0 2 3 1 0\npath 1 2 3 3 0\npath 2 2 3 5 0\n",
+    ),
+    (
+        RING,
+        0,
+        "npp-certificate 1\nstatus optimal\nwidth 64\nlower 3\nupper 3\nopened 0\ntoll 0 1/2\ntoll 1 1/2\ntoll 2 1/2\npath 0 0 1 0 1\npath 1 0 1 1 2\npath 2 0 1 2 0\n",
+    ),
+    (
+        "npp 1\nnode a\nnode b\nfree a b 10\ntoll a b 2\ntoll a b 4\npair a b 1\n",
+        0,
+        "npp-certificate 1\nstatus optimal\nwidth 64\nlower 8\nupper 8\nopened 0\ntoll 0 8\ntoll 1 6\npath 0 2 8 1\n",
+    ),
+    (
+        "npp 1\nnode a\nnode b\nfree a b 4\npair a b 1\n",
+        0,
+        "npp-certificate 1\nstatus optimal\nwidth 64\nlower 0\nupper 0\nopened 0\npath 0 4 0 0\n",
+    ),
+    (
+        "npp 1\nnode a\nnode b\nfree a b 5\ntoll a b 5\npair a b 3\n",
+        0,
+        "npp-certificate 1\nstatus optimal\nwidth 64\nlower 0\nupper 0\nopened 0\ntoll 0 0\npath 0 5 0 0\n",
+    ),
+    (
+        "npp 1\nnode a\nnode b\nnode c\nfree a b 10\ntoll a b 2\nfree a c 0\ntoll c a 0\npair a b 5\n",
+        0,
+        "npp-certificate 1\nstatus optimal\nwidth 64\nlower 40\nupper 40\nopened 0\ntoll 0 8\ntoll 1 0\npath 0 2 8 1\n",
+    ),
+];
+
 #[test]
 fn reports(rt: HostRuntime) -> Result<(), Fail> {
-    let rows = [
-        (TWO_ROADS, 0, TWO_ROADS_REPORT),
-        (TWO_ROADS_WITH_BLANKS, 0, TWO_ROADS_REPORT),
-        (
-            TWO_PAIRS,
-            0,
-            "npp-certificate 1\nstatus optimal\nwidth 64\nlower 12\nupper 12\nopened 1\ntoll 0 3\npath 0 2 3 1 0\npath 1 2 3 3 0\n",
-        ),
-        (
-            THREE_PAIRS,
-            0,
-            "npp-certificate 1\nstatus optimal\nwidth 64\nlower 15\nupper 15\nopened 2\ntoll 0 3\npath 0 2 3 1 0\npath 1 2 3 3 0\npath 2 2 3 5 0\n",
-        ),
-        (
-            RING,
-            0,
-            "npp-certificate 1\nstatus optimal\nwidth 64\nlower 3\nupper 3\nopened 0\ntoll 0 1/2\ntoll 1 1/2\ntoll 2 1/2\npath 0 0 1 0 1\npath 1 0 1 1 2\npath 2 0 1 2 0\n",
-        ),
-        (
-            "npp 1\nnode a\nnode b\nfree a b 10\ntoll a b 2\ntoll a b 4\npair a b 1\n",
-            0,
-            "npp-certificate 1\nstatus optimal\nwidth 64\nlower 8\nupper 8\nopened 0\ntoll 0 8\ntoll 1 6\npath 0 2 8 1\n",
-        ),
-        (
-            "npp 1\nnode a\nnode b\nfree a b 4\npair a b 1\n",
-            0,
-            "npp-certificate 1\nstatus optimal\nwidth 64\nlower 0\nupper 0\nopened 0\npath 0 4 0 0\n",
-        ),
-        (
-            "npp 1\nnode a\nnode b\nfree a b 5\ntoll a b 5\npair a b 3\n",
-            0,
-            "npp-certificate 1\nstatus optimal\nwidth 64\nlower 0\nupper 0\nopened 0\ntoll 0 0\npath 0 5 0 0\n",
-        ),
-        (
-            "npp 1\nnode a\nnode b\nnode c\nfree a b 10\ntoll a b 2\nfree a c 0\ntoll c a 0\npair a b 5\n",
-            0,
-            "npp-certificate 1\nstatus optimal\nwidth 64\nlower 40\nupper 40\nopened 0\ntoll 0 8\ntoll 1 0\npath 0 2 8 1\n",
-        ),
-    ];
-    for (text, status, written) in rows {
+    for row in REPORTS_ROWS {
+        let (text, status, written) = *row;
         expect(
             &rt,
             rt.alloc(),
@@ -146,6 +148,16 @@ fn reports(rt: HostRuntime) -> Result<(), Fail> {
     }
     Ok(())
 }
+
+const A_SMALL_TOLL_AMONG_GREAT_COSTS_ROWS: &[(usize, &str)] = &[
+    (1, "status optimal"),
+    (3, "lower 1900001"),
+    (4, "upper 1900001"),
+    (6, "toll 0 1"),
+    (7, "path 0 0 1 4 0"),
+    (8, "path 1 0 1 6 0"),
+    (9, "path 2 0 1 1 0"),
+];
 
 // A bound in floating point comes to 2,800,001 here; no tolls earn more than 1,900,001.
 #[test]
@@ -159,55 +171,53 @@ fn a_small_toll_among_great_costs(rt: HostRuntime) -> Result<(), Fail> {
     assert_eq!(rt; run(alloc, &words, &mut shelf, &mut out), 0);
     let text = std::str::from_utf8(out.written())?;
     assert_eq!(rt; text.lines().count(), 10);
-    let rows = [
-        (1, "status optimal"),
-        (3, "lower 1900001"),
-        (4, "upper 1900001"),
-        (6, "toll 0 1"),
-        (7, "path 0 0 1 4 0"),
-        (8, "path 1 0 1 6 0"),
-        (9, "path 2 0 1 1 0"),
-    ];
-    for (index, line) in rows {
+    for row in A_SMALL_TOLL_AMONG_GREAT_COSTS_ROWS {
+        let (index, line) = *row;
         assert_eq!(rt; text.lines().nth(index), Some(line));
     }
     Ok(())
 }
 
+const SPANS_ROWS: &[(&str, &str)] = &[
+    (TWO_ROADS, "span 0 10 2\nbasic 40\n"),
+    (
+        THREE_PAIRS,
+        "span 0 10 2\nspan 1 8 2\nspan 2 5 2\nbasic 23\n",
+    ),
+];
+
 #[test]
 fn spans(rt: HostRuntime) -> Result<(), Fail> {
-    let rows = [
-        (TWO_ROADS, "span 0 10 2\nbasic 40\n"),
-        (
-            THREE_PAIRS,
-            "span 0 10 2\nspan 1 8 2\nspan 2 5 2\nbasic 23\n",
-        ),
-    ];
-    for (text, written) in rows {
+    for row in SPANS_ROWS {
+        let (text, written) = *row;
         expect(&rt, rt.alloc(), "bounds file", text.as_bytes(), 0, written)?;
     }
     Ok(())
 }
 
+const TOLLS_ONLY: &str = "npp 1\nnode a\nnode b\ntoll a b 1\npair a b 1\n";
+
+const REPEATED: &str = "npp 1\nnode a\nnode a\n";
+
+const REFUSALS_ROWS: &[(&str, &str, u8, &str)] = &[
+    ("solve file", TOLLS_ONLY, 10, "refused no-free-path 0\n"),
+    ("bounds file", TOLLS_ONLY, 10, "refused no-free-path 0\n"),
+    ("paths file", TOLLS_ONLY, 10, "refused no-free-path 0\n"),
+    ("solve file", "", 3, "refused instance line 1 Header\n"),
+    (
+        "solve file",
+        REPEATED,
+        3,
+        "refused instance line 3 RepeatedNode\n",
+    ),
+    ("solve none", "", 4, "missing none\n"),
+    ("paths none", "", 4, "missing none\n"),
+];
+
 #[test]
 fn refusals(rt: HostRuntime) -> Result<(), Fail> {
-    let tolls_only = "npp 1\nnode a\nnode b\ntoll a b 1\npair a b 1\n";
-    let repeated = "npp 1\nnode a\nnode a\n";
-    let rows = [
-        ("solve file", tolls_only, 10, "refused no-free-path 0\n"),
-        ("bounds file", tolls_only, 10, "refused no-free-path 0\n"),
-        ("paths file", tolls_only, 10, "refused no-free-path 0\n"),
-        ("solve file", "", 3, "refused instance line 1 Header\n"),
-        (
-            "solve file",
-            repeated,
-            3,
-            "refused instance line 3 RepeatedNode\n",
-        ),
-        ("solve none", "", 4, "missing none\n"),
-        ("paths none", "", 4, "missing none\n"),
-    ];
-    for (line, text, status, written) in rows {
+    for row in REFUSALS_ROWS {
+        let (line, text, status, written) = *row;
         expect(&rt, rt.alloc(), line, text.as_bytes(), status, written)?;
     }
     let long = vec![in rt.alloc(); b'#'; 4_194_305]?;
@@ -221,83 +231,93 @@ fn refusals(rt: HostRuntime) -> Result<(), Fail> {
     )
 }
 
+const NO_JOB_ROWS: &[&str] = &[
+    "solve",
+    "solve file file",
+    "paths file file",
+    "price file",
+    "eval file",
+    "check file",
+    "upgrade file",
+    "solve file --numbers 16",
+    "solve file --cuts 0",
+    "solve file --budget",
+    "solve file --budget 100001",
+    "solve file --budget x",
+    "solve file --brief --brief",
+    "solve --file",
+    "paths -x",
+    "solve --help",
+    "gen x",
+    "gen 1000000",
+    "demo 1000000",
+    "demo 7 7",
+];
+
 // Words that are refused, each for a cause of its own.
 #[test]
 fn no_job(rt: HostRuntime) -> Result<(), Fail> {
-    let lines = [
-        "solve",
-        "solve file file",
-        "paths file file",
-        "price file",
-        "eval file",
-        "check file",
-        "solve file --numbers 16",
-        "solve file --cuts 0",
-        "solve file --budget",
-        "solve file --budget 100001",
-        "solve file --budget x",
-        "solve file --brief --brief",
-        "solve --file",
-        "paths -x",
-        "solve --help",
-        "gen x",
-        "gen 1000000",
-        "demo 1000000",
-        "demo 7 7",
-    ];
-    for line in lines {
+    for row in NO_JOB_ROWS {
+        let line = *row;
         expect(&rt, rt.alloc(), line, TWO_ROADS.as_bytes(), 2, USAGE)?;
     }
     Ok(())
 }
 
+const OPTIONS_ROWS: &[(&str, &str)] = &[
+    ("solve file --brief --budget +007", TWO_ROADS_REPORT),
+    ("--budget=-0 solve --brief file", TWO_ROADS_REPORT),
+    ("solve --brief -- file", TWO_ROADS_REPORT),
+    ("bounds file --brief --budget 3", "span 0 10 2\nbasic 40\n"),
+];
+
 // What is taken as a number is taken, and an option may stand anywhere; a job that does not use it goes on without it.
 #[test]
 fn options(rt: HostRuntime) -> Result<(), Fail> {
-    let rows = [
-        ("solve file --brief --budget +007", TWO_ROADS_REPORT),
-        ("--budget=-0 solve --brief file", TWO_ROADS_REPORT),
-        ("solve --brief -- file", TWO_ROADS_REPORT),
-        ("bounds file --brief --budget 3", "span 0 10 2\nbasic 40\n"),
-    ];
-    for (line, written) in rows {
+    for row in OPTIONS_ROWS {
+        let (line, written) = *row;
         expect(&rt, rt.alloc(), line, TWO_ROADS.as_bytes(), 0, written)?;
     }
     Ok(())
 }
 
+const NO_TOLL: &str =
+    "npp-certificate 1\nstatus optimal\nwidth 64\nlower 0\nupper 0\nopened 0\npath 0 4 0 0\ncover 0 0\nfree 0\ncuts 0\ntree\nopen\nend\n";
+
+const CERTIFICATES_ROWS: &[(&str, &str)] = &[
+    (TWO_ROADS, TWO_ROADS_CERTIFICATE),
+    (TWO_ROADS_WITH_BLANKS, TWO_ROADS_CERTIFICATE),
+    ("npp 1\nnode a\nnode b\nfree a b 4\npair a b 1\n", NO_TOLL),
+];
+
 // Whole certificates: one of a root that was not opened, and one of no toll arc.
 #[test]
 fn certificates(rt: HostRuntime) -> Result<(), Fail> {
-    let no_toll =
-        "npp-certificate 1\nstatus optimal\nwidth 64\nlower 0\nupper 0\nopened 0\npath 0 4 0 0\ncover 0 0\nfree 0\ncuts 0\ntree\nopen\nend\n";
-    let rows = [
-        (TWO_ROADS, TWO_ROADS_CERTIFICATE),
-        (TWO_ROADS_WITH_BLANKS, TWO_ROADS_CERTIFICATE),
-        ("npp 1\nnode a\nnode b\nfree a b 4\npair a b 1\n", no_toll),
-    ];
-    for (text, written) in rows {
+    for row in CERTIFICATES_ROWS {
+        let (text, written) = *row;
         expect(&rt, rt.alloc(), "solve file", text.as_bytes(), 0, written)?;
     }
     Ok(())
 }
 
+const BUDGETS_ROWS: &[(&str, u8, &str)] = &[
+    (
+        "solve file --budget 1 --brief",
+        1,
+        "npp-certificate 1\nstatus budget\nwidth 64\nlower 15\nupper 78/5\nopened 1\ntoll 0 3\npath 0 2 3 1 0\npath 1 2 3 3 0\npath 2 2 3 5 0\n",
+    ),
+    (
+        "solve file --budget 15 --brief",
+        0,
+        "npp-certificate 1\nstatus optimal\nwidth 64\nlower 15\nupper 15\nopened 2\ntoll 0 3\npath 0 2 3 1 0\npath 1 2 3 3 0\npath 2 2 3 5 0\n",
+    ),
+];
+
 // One node leaves a bound above the lower value; as many as twice the choices less one must close it.
 #[test]
 fn budgets(rt: HostRuntime) -> Result<(), Fail> {
-    let rows = [
-        (
-            "solve file --budget 1 --brief",
-            1,
-            "npp-certificate 1\nstatus budget\nwidth 64\nlower 15\nupper 78/5\nopened 1\ntoll 0 3\npath 0 2 3 1 0\npath 1 2 3 3 0\npath 2 2 3 5 0\n",
-        ),
-        (
-            "solve file --budget 15 --brief",
-            0,
-            "npp-certificate 1\nstatus optimal\nwidth 64\nlower 15\nupper 15\nopened 2\ntoll 0 3\npath 0 2 3 1 0\npath 1 2 3 3 0\npath 2 2 3 5 0\n",
-        ),
-    ];
-    for (line, status, written) in rows {
+    for row in BUDGETS_ROWS {
+        let (line, status, written) = *row;
         expect(
             &rt,
             rt.alloc(),
@@ -310,20 +330,22 @@ fn budgets(rt: HostRuntime) -> Result<(), Fail> {
     Ok(())
 }
 
+const USEFUL_PATHS_ROWS: &[(&str, &str)] = &[
+    (
+        NEEDLESS_TOLL,
+        "commodity 0 2\nuseful 0 0 2 tolls 0 arcs 1 2\nuseful 0 1 10 tolls arcs 0\n",
+    ),
+    (
+        CYCLES,
+        "commodity 0 5\nuseful 0 0 1 tolls 6 arcs 7 10\nuseful 0 1 2 tolls 1 arcs 2\nuseful 0 2 2 tolls 2 arcs 3\nuseful 0 3 4 tolls 3 arcs 4\nuseful 0 4 10 tolls arcs 1\ncommodity 1 5\nuseful 1 0 2 tolls 0 6 arcs 10 0\nuseful 1 1 3 tolls 0 1 arcs 8 2 0\nuseful 1 2 3 tolls 0 2 arcs 8 3 0\nuseful 1 3 5 tolls 0 3 arcs 8 4 0\nuseful 1 4 9 tolls arcs 8 11\n",
+    ),
+];
+
 // Parallel arcs, a loop and a cycle of cost 0 among them.
 #[test]
 fn useful_paths(rt: HostRuntime) -> Result<(), Fail> {
-    let rows = [
-        (
-            NEEDLESS_TOLL,
-            "commodity 0 2\nuseful 0 0 2 tolls 0 arcs 1 2\nuseful 0 1 10 tolls arcs 0\n",
-        ),
-        (
-            CYCLES,
-            "commodity 0 5\nuseful 0 0 1 tolls 6 arcs 7 10\nuseful 0 1 2 tolls 1 arcs 2\nuseful 0 2 2 tolls 2 arcs 3\nuseful 0 3 4 tolls 3 arcs 4\nuseful 0 4 10 tolls arcs 1\ncommodity 1 5\nuseful 1 0 2 tolls 0 6 arcs 10 0\nuseful 1 1 3 tolls 0 1 arcs 8 2 0\nuseful 1 2 3 tolls 0 2 arcs 8 3 0\nuseful 1 3 5 tolls 0 3 arcs 8 4 0\nuseful 1 4 9 tolls arcs 8 11\n",
-        ),
-    ];
-    for (text, written) in rows {
+    for row in USEFUL_PATHS_ROWS {
+        let (text, written) = *row;
         expect(&rt, rt.alloc(), "paths file", text.as_bytes(), 0, written)?;
     }
     Ok(())
@@ -441,6 +463,17 @@ fn ceilings(rt: HostRuntime) -> Result<(), Fail> {
     expect(&rt, alloc, "solve file", other.as_bytes(), 3, refusal)
 }
 
+const A_GENERATED_INSTANCE_ROWS: &[(usize, &str)] = &[
+    (0, "npp 1"),
+    (27, "toll m0 m1 4"),
+    (28, "toll m1 m2 4"),
+    (29, "toll m2 m3 3"),
+    (39, "free t0 t1 12"),
+    (40, "free t1 t0 12"),
+    (73, "pair t4 t10 3"),
+    (74, "pair t1 t4 16"),
+];
+
 #[test]
 fn a_generated_instance(rt: HostRuntime) -> Result<(), Fail> {
     let alloc = rt.alloc();
@@ -450,17 +483,8 @@ fn a_generated_instance(rt: HostRuntime) -> Result<(), Fail> {
     assert_eq!(rt; run(alloc, &words, &mut shelf, &mut out), 0);
     let text = std::str::from_utf8(out.written())?;
     assert_eq!(rt; text.lines().count(), 83);
-    let rows = [
-        (0, "npp 1"),
-        (27, "toll m0 m1 4"),
-        (28, "toll m1 m2 4"),
-        (29, "toll m2 m3 3"),
-        (39, "free t0 t1 12"),
-        (40, "free t1 t0 12"),
-        (73, "pair t4 t10 3"),
-        (74, "pair t1 t4 16"),
-    ];
-    for (index, line) in rows {
+    for row in A_GENERATED_INSTANCE_ROWS {
+        let (index, line) = *row;
         assert_eq!(rt; text.lines().nth(index), Some(line));
     }
     Ok(())

@@ -1,5 +1,5 @@
-use Rattle.std.proofs.Common.{refl, append_assoc}
+use Rattle.std.proofs.Common.{◌∙◌, append_assoc}
 use Rattle.npp_cli.proofs.check.refused.Goals as goal
 
 pub returns : goal.returns
-returns c = record { has_status = refl; has_text = simp append_assoc c.in_ok-text.ensures.ok }
+returns c = record { has_status = c.with_text.ensures.has_status; has_text = c.with_text.ensures.has_text ∙ simp append_assoc c.in_ok-text.ensures.ok }

@@ -3,7 +3,7 @@ use Rattle.npp_cli.specs.declared.answers.Answer.{Answer}
 use Rattle.npp_cli.specs.Evaluated.{AnswersTolls}
 use Rattle.npp_cli.specs.Answers.{tolls_limit}
 use Rattle.npp_cli.specs.Answer.{answer_text}
-use Rattle.npp_cli.proofs.EvalLemmas.{tolls_cause}
+use Rattle.npp_cli.proofs.CauseLemmas.{tolls_cause}
 use Rattle.npp_cli.proofs.FileLemmas.{not_taken_answered, refusal_cause, taken_answered}
 use Rattle.npp_cli.proofs.eval.eval_on_instance.Goals as goal
 

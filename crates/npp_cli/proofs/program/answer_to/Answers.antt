@@ -1,7 +1,7 @@
 use Rattle.std.proofs.lemmas.Result.{IfOk-weaker}
 use Rattle.npp_cli.specs.declared.answers.Answer.{Answer}
 use Rattle.npp_cli.specs.Answer.{answer_text}
-use Rattle.npp_cli.proofs.EvalLemmas.{demonstration_cause}
+use Rattle.npp_cli.proofs.CauseLemmas.{demonstration_cause}
 use Rattle.npp_cli.proofs.program.answer_to.Goals as goal
 
 pub returns-in-Some-Demonstrate-clause-cause : goal.returns-in-Some-Demonstrate-clause-cause

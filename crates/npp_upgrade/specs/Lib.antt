@@ -1,0 +1,3 @@
+pub mod Upgraded
+pub mod Splice
+pub mod Upgrade
