@@ -73,4 +73,4 @@ echo "| Search | ends with | opened | nodes | upper | seconds | microseconds an 
 echo "|---|---|---|---|---|---|---|"
 runs=1
 network star 17 1 1000000
-for picker in best depth; do nodes "star of 17, large numbers" "$folder/net" 32 "$picker" 1000 10000 100000; done
+for picker in best depth; do nodes "star of 17, large numbers" "$folder/net" 32 "$picker" 1000 10000 30000 100000; done

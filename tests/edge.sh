@@ -185,6 +185,15 @@ try_certificates() {
   check "a certificate without its last byte" "$(seen "$program" check short cut)" "9 refused certificate line 16 Text"
   check "no certificate" "$(seen "$program" check short none)" "4 missing none"
   check "a folder for a certificate" "$(seen "$program" check short folder)" "5 shelf fault folder"
+  check "a certificate in the second form" "$(seen "$program" upgrade short certificate)" \
+    "0 $(sed -e '1s/1$/2/' -e '6a instance 2 2 1 1' -e '6a limit 0 -' certificate)"
+  "$program" upgrade short certificate > upgraded || true
+  check "the same again" "$(seen "$program" upgrade short upgraded)" "0 $(cat upgraded)"
+  check "its check" "$(seen "$program" check short upgraded)" "0 accepted lower 40 upper 40"
+  truncate -s 67108864 zeros
+  check "as many bytes as may be upgraded" "$(seen "$program" upgrade short zeros)" "9 refused certificate line 1 Text"
+  truncate -s 67108865 zeros
+  check "one byte more" "$(seen "$program" upgrade short zeros)" "12 refused too-long zeros"
 }
 
 programs=("$@")

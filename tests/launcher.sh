@@ -132,11 +132,12 @@ check "mended" "$(seen "$top/npp" solve file)" "3 [2 words, the last file] 1"
 
 for signal in TERM HUP INT; do
   echo "// $signal" >> "$top/crates/npp_low/src/lib.rt"
+  proofs="$(grep -c '^all' "$NOTES")"
   # A shell starts what it does not wait for with INT ignored, which no trap can change.
   PROOF_SECONDS=20 python3 -c 'import os, signal, sys
 signal.signal(signal.SIGINT, signal.SIG_DFL)
 os.execv(sys.argv[1], sys.argv[1:])' "$top/npp" solve file > "$room/output" 2>&1 &
-  sleep 1
+  for ((tenths = 0; tenths < 200 && $(grep -c '^all' "$NOTES") == proofs; tenths++)); do sleep 0.1; done
   kill -s "$signal" $!
   status=0
   wait $! || status=$?

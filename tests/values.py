@@ -517,12 +517,16 @@ def print_nodes():
 
 
 def cube():
-    """The relaxation over the first 24 paths of a chain and the toll-free one, with a cut for each of the 24."""
-    chain = "".join(f"\ntoll c{i} c{i + 1} 0\nfree c{i} c{i + 1} 1" for i in range(5))
-    net = Instance(f"toll s c0 0{chain}\nfree s c5 6\npair s c5 1")
-    saved = [net.free[0] - cost for _, cost in net.paths[0]]
-    corner = lambda i: cut_of(*[(0, j, 2 * saved[j]) for j in range(i)], (0, i, saved[i]), right=F(2 ** (i + 1) - 1, 2**26))
-    return net, [[*range(24), len(saved) - 1]], [corner(i) for i in range(24)]
+    """The relaxation over the first 18 paths of three layers of toll arcs and the toll-free one, with cuts by which each share is at least
+    the one before, and both together at most a bound that rises; the last share counts 32 times less."""
+    tolls = "\ntoll s p 0" * 2 + "\ntoll p q 0" * 2 + "\ntoll q t 0" * 5
+    net = Instance(f"free s t 1{tolls}\npair s t 1")
+    cuts = [cut_of((0, 0, 1), right=F(1, 2**23))]
+    for i in range(1, 18):
+        times = 32 if i == 17 else 1
+        cuts.append(cut_of((0, i - 1, times), (0, i, -1), right=0))
+        cuts.append(cut_of((0, i - 1, times), (0, i, 1), right=F(times * (2 ** (i + 1) - 1), 2**23)))
+    return net, [[*range(18), 20]], cuts
 
 
 def bent_cube():

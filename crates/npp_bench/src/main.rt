@@ -18,7 +18,7 @@ use dual::checked;
 use npp_frac::{Exact, Frac32, Frac64, Frac128};
 use pass::pass;
 use simplex::solved;
-use std::alloc::Global;
+use std::alloc::{AllocError, Global};
 use std::io;
 use triples::replay;
 
@@ -33,69 +33,68 @@ fn numbers(line: &str) -> Option<(u32, u32, u32)> {
 
 fn main(rt: HostRuntime) -> io::Result<()> {
     for line in rt.lines(rt.alloc()) {
-        let line = line?;
-        if let Some(sizes) = line.strip_prefix("dual ") {
-            print_dual(&rt, rt.alloc(), sizes)?;
-            continue;
-        }
-        if let Some(sizes) = line.strip_prefix("simplex 64 ") {
-            print_simplex::<Frac64>(&rt, rt.alloc(), 64, sizes)?;
-            continue;
-        }
-        if let Some(sizes) = line.strip_prefix("simplex 128 ") {
-            print_simplex::<Frac128>(&rt, rt.alloc(), 128, sizes)?;
-            continue;
-        }
-        if let Some(list) = line.strip_prefix("triples ") {
-            print_triples(&rt, rt.alloc(), list)?;
-            continue;
-        }
-        let Some((width, bits, count)) = numbers(line.as_str()) else {
-            println!(rt; "width, bits and count are wanted")?;
-            continue;
-        };
-        let sum = match width {
-            32 => pass::<Frac32>(rt.alloc(), bits, count)?,
-            64 => pass::<Frac64>(rt.alloc(), bits, count)?,
-            _ => pass::<Frac128>(rt.alloc(), bits, count)?,
-        };
-        println!(rt; "width {width} bits {bits} count {count}: {sum}")?;
+        let answer = answer(rt.alloc(), line?.as_str())?;
+        println!(rt; "{answer}")?;
     }
     Ok(())
 }
 
+/// What is printed of a line.
+fn answer(alloc: Global, line: &str) -> Result<String, AllocError> {
+    match line.split_once(' ') {
+        Some(("dual", sizes)) => dual_answer(alloc, sizes),
+        Some(("simplex", line)) => match line.split_once(' ') {
+            Some(("64", sizes)) => simplex_answer::<Frac64>(alloc, 64, sizes),
+            Some(("128", sizes)) => simplex_answer::<Frac128>(alloc, 128, sizes),
+            _ => format!(in alloc; "width, bits and count are wanted"),
+        },
+        Some(("triples", list)) => triples_answer(alloc, list),
+        _ => pass_answer(alloc, line),
+    }
+}
+
+/// Takes all triples of some fractions.
+fn pass_answer(alloc: Global, line: &str) -> Result<String, AllocError> {
+    let Some((width, bits, count)) = numbers(line) else {
+        return format!(in alloc; "width, bits and count are wanted");
+    };
+    let sum = match width {
+        32 => pass::<Frac32>(alloc, bits, count)?,
+        64 => pass::<Frac64>(alloc, bits, count)?,
+        _ => pass::<Frac128>(alloc, bits, count)?,
+    };
+    format!(in alloc; "width {width} bits {bits} count {count}: {sum}")
+}
+
 /// Checks a dual answer of the sizes of a line.
-fn print_dual(rt: &impl Print, alloc: Global, sizes: &str) -> io::Result<()> {
+fn dual_answer(alloc: Global, sizes: &str) -> Result<String, AllocError> {
     let Some((rows, columns, nonzero)) = numbers(sizes) else {
-        return println!(rt; "rows, columns and nonzero multipliers are wanted");
+        return format!(in alloc; "rows, columns and nonzero multipliers are wanted");
     };
     let Ok(value) = checked(alloc, rows, columns, nonzero) else {
-        return println!(rt; "too little memory");
+        return format!(in alloc; "too little memory");
     };
-    println!(rt; "rows {rows} columns {columns} nonzero {nonzero}: {value}")
+    format!(in alloc; "rows {rows} columns {columns} nonzero {nonzero}: {value}")
 }
 
 /// Runs the simplex on a program of the sizes of a line.
-fn print_simplex<N: Exact>(
-    rt: &impl Print,
-    alloc: Global,
-    width: u32,
-    sizes: &str,
-) -> io::Result<()> {
+fn simplex_answer<N: Exact>(alloc: Global, width: u32, sizes: &str) -> Result<String, AllocError> {
     let Some((rows, columns, most)) = numbers(sizes) else {
-        return println!(rt; "rows, columns and the greatest factor are wanted");
+        return format!(in alloc; "rows, columns and the greatest factor are wanted");
     };
     let Ok(Some(end)) = solved::<N>(alloc, rows, columns, most) else {
-        return println!(rt; "width {width} rows {rows} columns {columns} most {most}: no optimum");
+        return format!(in alloc;
+            "width {width} rows {rows} columns {columns} most {most}: no optimum"
+        );
     };
-    println!(rt;
+    format!(in alloc;
         "width {width} rows {rows} columns {columns} most {most}: {} pivots, optimal {}/{}",
         end.pivots, end.num, end.den
     )
 }
 
 /// Takes the triples that a line lists.
-fn print_triples(rt: &impl Print, alloc: Global, list: &str) -> io::Result<()> {
+fn triples_answer(alloc: Global, list: &str) -> Result<String, AllocError> {
     let answer = match list.split_once(' ') {
         Some(("32", list)) => replay::<Frac32>(alloc, list)?,
         Some(("64", list)) => replay::<Frac64>(alloc, list)?,
@@ -103,9 +102,9 @@ fn print_triples(rt: &impl Print, alloc: Global, list: &str) -> io::Result<()> {
         _ => None,
     };
     let Some(replay) = answer else {
-        return println!(rt; "width, repeats and the numbers of triples are wanted");
+        return format!(in alloc; "width, repeats and the numbers of triples are wanted");
     };
-    println!(rt;
+    format!(in alloc;
         "width {} triples {} repeated {}: {}",
         replay.width, replay.count, replay.repeat, replay.sum
     )

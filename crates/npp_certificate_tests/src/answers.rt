@@ -4,32 +4,40 @@ ghost use Rattle.npp_tree.specs.Items.{HasShortLists};
 
 use crate::items::items_of;
 use npp_check::{CheckRefusal, CheckedRefusal, check};
+use npp_fixtures::{instance_of, with_lines};
 use npp_frac::{Exact, Frac32, Frac64, Frac128, print_fraction};
 use npp_net::Instance;
-use npp_reader::read;
 use npp_tree::{Item, Pair};
 use std::alloc::Global;
 use std::process::Abort;
 use std::test::Fail;
 
+/// The first and the last of some lines of a text, numbered from 1, and the lines that stand in their place.
+pub(crate) type Change = (usize, usize, &'static str);
+
+/// A certificate of a network: a text with changes, each of the text that those before it left.
+#[derive(Clone, Copy)]
+pub(crate) struct Certificate {
+    /// The instance.
+    pub network: &'static str,
+    /// The text of which it is made.
+    pub text: &'static str,
+    /// What is changed, the last lines first, so that lines keep their numbers until they are changed.
+    pub changes: &'static [Change],
+}
+
 /// The first and the last of some lines of a certificate, numbered from 1; the lines that stand in their place, where there are
 /// any; and what the checker answers: `accepted` with both values, or the first broken line with its rule.
 pub(crate) type Case = (usize, usize, &'static str, &'static str);
-
-/// The instance of a text.
-pub(crate) fn instance_of(alloc: Global, text: &str) -> Result<Instance, Fail> {
-    Ok(read(alloc, text.as_bytes())?.instance)
-}
 
 /// Expects the answers to the cases of a certificate, at each width.
 pub(crate) fn expect_answers(
     rt: &impl Abort,
     alloc: Global,
-    network: &str,
-    certificate: &str,
+    certificate: Certificate,
     cases: &[Case],
 ) -> Result<(), Fail> {
-    let instance = instance_of(alloc, network)?;
+    let instance = instance_of(alloc, certificate.network)?;
     for case in cases {
         let text = changed(alloc, certificate, *case)?;
         expect_answer::<Frac32>(rt, alloc, &instance, text.as_str(), case.3)?;
@@ -43,11 +51,10 @@ pub(crate) fn expect_answers(
 pub(crate) fn expect_at<N: Exact>(
     rt: &impl Abort,
     alloc: Global,
-    network: &str,
-    certificate: &str,
+    certificate: Certificate,
     case: Case,
 ) -> Result<(), Fail> {
-    let instance = instance_of(alloc, network)?;
+    let instance = instance_of(alloc, certificate.network)?;
     let text = changed(alloc, certificate, case)?;
     expect_answer::<N>(rt, alloc, &instance, text.as_str(), case.3)
 }
@@ -69,14 +76,13 @@ pub(crate) fn expect_answer<N: Exact>(
 pub(crate) fn expect_with(
     rt: &impl Abort,
     alloc: Global,
-    network: &str,
-    certificate: &str,
+    certificate: Certificate,
     case: Case,
     item: Item<Frac128>,
 ) -> Result<(), Fail>
     requires { HasShortLists item }
 {
-    let instance = instance_of(alloc, network)?;
+    let instance = instance_of(alloc, certificate.network)?;
     let text = changed(alloc, certificate, case)?;
     let mut items = items_of::<Frac128>(alloc, text.as_str())?;
     items.push(item)?;
@@ -85,28 +91,23 @@ pub(crate) fn expect_with(
     Ok(())
 }
 
-/// A certificate with the lines of a case replaced.
-fn changed(alloc: Global, certificate: &str, case: Case) -> Result<String, Fail> {
-    let (first, last, stead, _) = case;
-    let mut text = String::new(alloc);
-    for (number, line) in (1..usize::MAX).zip(certificate.lines()) {
-        if number == first {
-            add_lines(&mut text, stead)?;
-        }
-        if number < first || last < number {
-            add_lines(&mut text, line)?;
-        }
+/// The text of a certificate with the lines of a case replaced.
+fn changed(alloc: Global, certificate: Certificate, case: Case) -> Result<String, Fail> {
+    let mut text = String::from_str(alloc, certificate.text)?;
+    for change in certificate.changes {
+        text = with(alloc, text.as_str(), *change)?;
     }
-    Ok(text)
+    with(alloc, text.as_str(), (case.0, case.1, case.2))
 }
 
-/// Adds lines to a text, where there are any.
-fn add_lines(text: &mut String, lines: &str) -> Result<(), Fail> {
+/// The text with a change made. The lines of a change have no line feed behind the last.
+fn with(alloc: Global, text: &str, change: Change) -> Result<String, Fail> {
+    let (first, last, stead) = change;
+    let mut lines = String::from_str(alloc, stead)?;
     if !lines.is_empty() {
-        text.push_str(lines)?;
-        text.push('\n')?;
+        lines.push('\n')?;
     }
-    Ok(())
+    Ok(with_lines(alloc, text, first, last, lines.as_str())?)
 }
 
 /// What the checker answers to a certificate.

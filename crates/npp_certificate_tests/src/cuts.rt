@@ -1,7 +1,7 @@
 //! Certificates with cuts.
 
-use crate::answers::{Case, expect_answers, expect_at, expect_with};
-use crate::shared_road::SHARED;
+use crate::answers::{Case, Certificate, expect_answers, expect_at, expect_with};
+use npp_fixtures::{THREE_PAIRS, THREE_PAIRS_CERTIFICATE};
 use npp_frac::{Frac32, Frac64};
 use npp_net::Listed;
 use npp_tree::Item;
@@ -9,32 +9,14 @@ use std::test::Fail;
 
 /// The conflict of the toll-free road of the first commodity and the toll road of the second, and a rounded multiple of it. With
 /// the rounded row no outcome is left to a node that allows the two commodities these roads alone.
-const ROUNDED: &str = "npp-certificate 1
-status budget
-width 64
-lower 15
-upper 23
-opened 3
-toll 0 3
-path 0 2 3 1 0
-path 1 2 3 3 0
-path 2 2 3 5 0
-cover 0 3
-start
-step 0 1
-step 1 0
-free 2
-cover 1 3
-start
-step 0 3
-step 1 0
-free 4
-cover 2 3
-start
-step 0 5
-step 1 0
-free 6
-cuts 2
+const ROUNDED: Certificate = Certificate {
+    network: THREE_PAIRS,
+    text: THREE_PAIRS_CERTIFICATE,
+    changes: &[
+        (
+            26,
+            37,
+            "cuts 2
 conflict 0 1 1 0 2
 y follow 0 0 1
 y follow 1 1 1
@@ -51,9 +33,11 @@ y onelow 1 1/4
 y cut 1 1
 leaf
 open
-open
-end
-";
+open",
+        ),
+        (5, 6, "upper 23\nopened 3"),
+    ],
+};
 
 /// A conflict that no rule of names, order or sign breaks is judged by its sums.
 const CONFLICT_CASES: [Case; 18] = [
@@ -190,7 +174,9 @@ pair q b 1
 
 /// The toll-free road of the first commodity is in conflict with both toll roads of the second. So no outcome is left to a node
 /// that allows the one the toll-free road alone and the other the toll roads alone.
-const PAIRED: &str = "npp-certificate 1
+const PAIRED: Certificate = Certificate {
+    network: TWO_TOLLS,
+    text: "npp-certificate 1
 status budget
 width 64
 lower 14
@@ -233,7 +219,9 @@ leaf
 open
 open
 end
-";
+",
+    changes: &[],
+};
 
 const PAIR_CASES: [Case; 13] = [
     (0, 0, "", "accepted 14 19"),
@@ -253,28 +241,28 @@ const PAIR_CASES: [Case; 13] = [
 
 #[test]
 fn a_conflict_is_judged_at_its_last_line(rt: HostRuntime) -> Result<(), Fail> {
-    expect_answers(&rt, rt.alloc(), SHARED, ROUNDED, &CONFLICT_CASES)
+    expect_answers(&rt, rt.alloc(), ROUNDED, &CONFLICT_CASES)
 }
 
 #[test]
 fn a_combination_is_rounded(rt: HostRuntime) -> Result<(), Fail> {
-    expect_answers(&rt, rt.alloc(), SHARED, ROUNDED, &ROUND_CASES)
+    expect_answers(&rt, rt.alloc(), ROUNDED, &ROUND_CASES)
 }
 
 #[test]
 fn a_pair_takes_two_conflicts(rt: HostRuntime) -> Result<(), Fail> {
-    expect_answers(&rt, rt.alloc(), TWO_TOLLS, PAIRED, &PAIR_CASES)
+    expect_answers(&rt, rt.alloc(), PAIRED, &PAIR_CASES)
 }
 
 #[test]
 fn sums_of_cuts_that_do_not_fit_are_named(rt: HostRuntime) -> Result<(), Fail> {
     let alloc = rt.alloc();
     let narrow = (27, 29, LARGE_CONFLICT, "29 Overflow");
-    expect_at::<Frac32>(&rt, alloc, SHARED, ROUNDED, narrow)?;
+    expect_at::<Frac32>(&rt, alloc, ROUNDED, narrow)?;
     let wide = (27, 29, LARGE_CONFLICT, "accepted 15 23");
-    expect_at::<Frac64>(&rt, alloc, SHARED, ROUNDED, wide)?;
+    expect_at::<Frac64>(&rt, alloc, ROUNDED, wide)?;
     let round = (30, 31, LARGE_ROUND, "32 Overflow");
-    expect_at::<Frac32>(&rt, alloc, SHARED, ROUNDED, round)
+    expect_at::<Frac32>(&rt, alloc, ROUNDED, round)
 }
 
 #[test]
@@ -287,5 +275,5 @@ fn a_pair_of_one_cut_is_refused(rt: HostRuntime) -> Result<(), Fail> {
         cuts: Listed::of(vec![in alloc; 0]?),
     };
     let case = (30, 100, "", "30 Cut");
-    expect_with(&rt, alloc, TWO_TOLLS, PAIRED, case, pair)
+    expect_with(&rt, alloc, PAIRED, case, pair)
 }

@@ -13,3 +13,5 @@ mod limits;
 mod roads;
 #[cfg(test)]
 mod shared_road;
+#[cfg(test)]
+mod writers;

@@ -1,51 +1,22 @@
 //! Limits of certificates.
 
-use crate::answers::{expect_answer, expect_with, instance_of};
-use crate::roads::{CLOSED, TWO_ROADS};
+use crate::answers::{expect_answer, expect_with};
+use crate::roads::CLOSED;
+use npp_fixtures::{TWO_ROADS, TWO_ROADS_CERTIFICATE, instance_of, with_lines};
 use npp_frac::Frac128;
 use npp_net::Listed;
 use npp_tree::Item;
 use std::alloc::Global;
 use std::test::Fail;
 
-/// How a certificate for one toll road beside a free one begins.
-const HEAD: &str = "npp-certificate 1
-status optimal
-width 64
-lower 40
-upper 40
-opened 0
-toll 0 8
-path 0 2 8 1
-";
-
-/// A certificate whose first line may stand, and whose seventh may not.
-const WRONG_TOLL: &str = "npp-certificate 1
-status optimal
-width 64
-lower 0
-upper 0
-opened 0
-toll 1 0
-";
-
-/// How it ends.
-const TAIL: &str = "free 0
-cuts 0
-tree
-open
-end
-";
-
-/// The text of a certificate whose cover names the toll road so many times.
+/// The text of a certificate of two roads whose cover names the toll road so many times.
 fn certificate(alloc: Global, times: u32) -> Result<String, Fail> {
     let labels = times.saturating_add(1);
-    let mut text = format!(in alloc; "{HEAD}cover 0 {labels}\nstart\n")?;
+    let mut cover = format!(in alloc; "cover 0 {labels}\nstart\n")?;
     for _ in 0..times {
-        text.push_str("step 0 1\n")?;
+        cover.push_str("step 0 1\n")?;
     }
-    text.push_str(TAIL)?;
-    Ok(text)
+    Ok(with_lines(alloc, TWO_ROADS_CERTIFICATE, 9, 11, cover.as_str())?)
 }
 
 /// The text of an instance with so many toll roads beside a free one.
@@ -70,10 +41,11 @@ fn there_are_at_most_2000_useful_paths(rt: HostRuntime) -> Result<(), Fail> {
 #[test]
 fn the_first_form_is_for_64_toll_arcs(rt: HostRuntime) -> Result<(), Fail> {
     let alloc = rt.alloc();
+    let wrong_toll = with_lines(alloc, TWO_ROADS_CERTIFICATE, 7, 7, "toll 1 0\n")?;
     for (count, wanted) in [(64, "7 Order"), (65, "1 Instance")] {
         let network = toll_roads(alloc, count)?;
         let instance = instance_of(alloc, network.as_str())?;
-        expect_answer::<Frac128>(&rt, alloc, &instance, WRONG_TOLL, wanted)?;
+        expect_answer::<Frac128>(&rt, alloc, &instance, wrong_toll.as_str(), wanted)?;
     }
     Ok(())
 }
@@ -86,5 +58,5 @@ fn a_part_is_not_empty(rt: HostRuntime) -> Result<(), Fail> {
         part: Listed::of(Vec::new(alloc)),
     };
     let case = (15, 16, "basic large", "16 Split");
-    expect_with(&rt, alloc, TWO_ROADS, CLOSED, case, nothing)
+    expect_with(&rt, alloc, CLOSED, case, nothing)
 }

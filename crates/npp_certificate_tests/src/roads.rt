@@ -1,21 +1,13 @@
 //! Certificates of one toll road beside a free one, line by line.
 
-use crate::answers::{Case, expect_answers, expect_at, instance_of};
+use crate::answers::{Case, Certificate, expect_answers, expect_at};
 use npp_check::{CheckRefusal, Checker, Rule};
+use npp_fixtures::{TWO_ROADS, TWO_ROADS_CERTIFICATE, instance_of};
 use npp_frac::{Frac32, Frac64, Frac128};
 use npp_tree::{Item, Status};
 use std::test::Fail;
 
-/// A toll road of cost 2 beside a free one of cost 10, for five travellers.
-pub(crate) const TWO_ROADS: &str = "npp 1
-node a
-node b
-free a b 10
-toll a b 2
-pair a b 5
-";
-
-/// The same with a ceiling of 3 on the toll road.
+/// A toll road of cost 2 and a ceiling of 3, beside a free one of cost 10, for five travellers.
 const CAPPED: &str = "npp 2
 node a
 node b
@@ -42,26 +34,26 @@ pair a b 1
 ";
 
 /// All pay 8 on the toll road, and the basic bound closes the root.
-pub(crate) const CLOSED: &str = "npp-certificate 1
+pub(crate) const CLOSED: Certificate = Certificate {
+    network: TWO_ROADS,
+    text: TWO_ROADS_CERTIFICATE,
+    changes: &[],
+};
+
+/// The head of the same certificate in the second form.
+const SECOND_FORM: &str = "npp-certificate 2
 status optimal
 width 64
 lower 40
 upper 40
 opened 0
-toll 0 8
-path 0 2 8 1
-cover 0 2
-start
-step 0 1
-free 0
-cuts 0
-tree
-open
-end
-";
+instance 2 2 1 1
+limit 0 -";
 
-const CLOSED_CASES: [Case; 22] = [
+const CLOSED_CASES: [Case; 24] = [
     (0, 0, "", "accepted 40 40"),
+    (1, 6, SECOND_FORM, "accepted 40 40"),
+    (6, 6, "opened 0\ninstance 2 2 1 1", "7 Order"),
     (1, 1, "npp-certificate 2", "7 Order"),
     (2, 2, "status budget", "16 Status"),
     (4, 4, "lower 39", "13 Lower"),
@@ -91,29 +83,24 @@ const CLOSED_CASES: [Case; 22] = [
 ];
 
 /// The same revenue, with a split and the inverse programs of both choices.
-const SPLIT: &str = "npp-certificate 1
-status optimal
-width 64
-lower 40
-upper 40
-opened 3
-toll 0 8
-path 0 2 8 1
-cover 0 2
-start
-step 0 1
-free 0
-cuts 0
-tree
-basic large
+const SPLIT: Certificate = Certificate {
+    network: TWO_ROADS,
+    text: TWO_ROADS_CERTIFICATE,
+    changes: &[
+        (
+            15,
+            15,
+            "basic large
 split 0 0
 inverse 1
 y cap 0 5
 leaf
 inverse 0
-leaf
-end
-";
+leaf",
+        ),
+        (6, 6, "opened 3"),
+    ],
+};
 
 const SPLIT_CASES: [Case; 24] = [
     (0, 0, "", "accepted 40 40"),
@@ -143,28 +130,32 @@ const SPLIT_CASES: [Case; 24] = [
 ];
 
 /// All pay 3 under the ceiling, and a dual answer closes the root.
-const UNDER_CEILING: &str = "npp-certificate 2
-status optimal
-width 64
-lower 15
+const UNDER_CEILING: Certificate = Certificate {
+    network: CAPPED,
+    text: TWO_ROADS_CERTIFICATE,
+    changes: &[
+        (
+            15,
+            15,
+            "dual 2
+y cap 0 5
+y below 0 0 5
+leaf",
+        ),
+        (
+            4,
+            8,
+            "lower 15
 upper 15
 opened 1
 instance 2 2 1 1
 limit 0 3
 toll 0 3
-path 0 2 3 1
-cover 0 2
-start
-step 0 1
-free 0
-cuts 0
-tree
-dual 2
-y cap 0 5
-y below 0 0 5
-leaf
-end
-";
+path 0 2 3 1",
+        ),
+        (1, 1, "npp-certificate 2"),
+    ],
+};
 
 /// The head of the same certificate in the first form.
 const FIRST_FORM: &str = "npp-certificate 1
@@ -198,29 +189,34 @@ const CEILING_CASES: [Case; 11] = [
 ];
 
 /// Nobody pays, and the inverse programs of both choices bound what can be earned.
-const FAR_APART: &str = "npp-certificate 1
-status overflow
-width 64
-lower 0
-upper 1000000000000
-opened 3
-toll 0 0
-path 0 0 0 1
-cover 0 2
-start
-step 0 1
-free 0
-cuts 0
-tree
-basic large
+const FAR_APART: Certificate = Certificate {
+    network: LONG_ROADS,
+    text: TWO_ROADS_CERTIFICATE,
+    changes: &[
+        (
+            15,
+            15,
+            "basic large
 split 0 0
 inverse 1
 y cap 0 1000000
 leaf
 inverse 0
-leaf
-end
-";
+leaf",
+        ),
+        (
+            2,
+            8,
+            "status overflow
+width 64
+lower 0
+upper 1000000000000
+opened 3
+toll 0 0
+path 0 0 0 1",
+        ),
+    ],
+};
 
 /// All pay 1,000,000 on the toll road, which is more in all than fits 32 bits.
 const ALL_PAY: &str = "upper 1
@@ -230,37 +226,43 @@ path 0 0 1000000 1";
 
 #[test]
 fn a_closed_root_is_judged_line_by_line(rt: HostRuntime) -> Result<(), Fail> {
-    expect_answers(&rt, rt.alloc(), TWO_ROADS, CLOSED, &CLOSED_CASES)
+    expect_answers(&rt, rt.alloc(), CLOSED, &CLOSED_CASES)
 }
 
 #[test]
 fn a_tree_of_choices_is_judged_line_by_line(rt: HostRuntime) -> Result<(), Fail> {
-    expect_answers(&rt, rt.alloc(), TWO_ROADS, SPLIT, &SPLIT_CASES)
+    expect_answers(&rt, rt.alloc(), SPLIT, &SPLIT_CASES)
 }
 
 #[test]
 fn ceilings_are_kept_and_named(rt: HostRuntime) -> Result<(), Fail> {
-    expect_answers(&rt, rt.alloc(), CAPPED, UNDER_CEILING, &CEILING_CASES)?;
-    let without = [(0, 0, "", "8 Instance")];
-    expect_answers(&rt, rt.alloc(), TWO_ROADS, UNDER_CEILING, &without)
+    expect_answers(&rt, rt.alloc(), UNDER_CEILING, &CEILING_CASES)?;
+    let without = Certificate {
+        network: TWO_ROADS,
+        ..UNDER_CEILING
+    };
+    expect_answers(&rt, rt.alloc(), without, &[(0, 0, "", "8 Instance")])
 }
 
 #[test]
 fn a_commodity_needs_a_toll_free_walk(rt: HostRuntime) -> Result<(), Fail> {
-    let none = [(0, 0, "", "NoFreePath(0)")];
-    expect_answers(&rt, rt.alloc(), TOLL_ROAD, CLOSED, &none)
+    let alone = Certificate {
+        network: TOLL_ROAD,
+        ..CLOSED
+    };
+    expect_answers(&rt, rt.alloc(), alone, &[(0, 0, "", "NoFreePath(0)")])
 }
 
 #[test]
 fn sums_that_do_not_fit_are_named(rt: HostRuntime) -> Result<(), Fail> {
     let alloc = rt.alloc();
     let whole = (0, 0, "", "accepted 0 1000000000000");
-    expect_at::<Frac64>(&rt, alloc, LONG_ROADS, FAR_APART, whole)?;
-    expect_at::<Frac128>(&rt, alloc, LONG_ROADS, FAR_APART, whole)?;
+    expect_at::<Frac64>(&rt, alloc, FAR_APART, whole)?;
+    expect_at::<Frac128>(&rt, alloc, FAR_APART, whole)?;
     let evidence = (5, 5, "upper 1", "18 Overflow");
-    expect_at::<Frac32>(&rt, alloc, LONG_ROADS, FAR_APART, evidence)?;
+    expect_at::<Frac32>(&rt, alloc, FAR_APART, evidence)?;
     let earned = (5, 8, ALL_PAY, "13 Overflow");
-    expect_at::<Frac32>(&rt, alloc, LONG_ROADS, FAR_APART, earned)
+    expect_at::<Frac32>(&rt, alloc, FAR_APART, earned)
 }
 
 #[test]

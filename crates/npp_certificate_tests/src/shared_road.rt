@@ -1,67 +1,15 @@
 //! Certificates of a toll road that three commodities share, each beside a toll-free road of its own.
 
-use crate::answers::{Case, expect_answers};
+use crate::answers::{Case, Certificate, expect_answers};
+use npp_fixtures::{THREE_PAIRS, THREE_PAIRS_CERTIFICATE};
 use std::test::Fail;
 
-/// A toll road of cost 2 beside toll-free ones of costs 10, 8 and 5.
-pub(crate) const SHARED: &str = "npp 1
-node a
-node b
-node p
-node q
-node r
-toll a b 2
-free p a 0
-free p b 10
-free q a 0
-free q b 8
-free r a 0
-free r b 5
-pair p b 1
-pair q b 1
-pair r b 3
-";
-
 /// A toll of 3 earns 15, and a dual answer of the root's relaxation proves 78/5.
-const ROOT: &str = "npp-certificate 1
-status budget
-width 64
-lower 15
-upper 78/5
-opened 1
-toll 0 3
-path 0 2 3 1 0
-path 1 2 3 3 0
-path 2 2 3 5 0
-cover 0 3
-start
-step 0 1
-step 1 0
-free 2
-cover 1 3
-start
-step 0 3
-step 1 0
-free 4
-cover 2 3
-start
-step 0 5
-step 1 0
-free 6
-cuts 0
-tree
-dual 6
-y below 0 0 1
-y below 0 1 19/20
-y use 0 1 1/5
-y use 0 2 24/5
-y link 0 1 3/20
-y link 0 2 9/5
-split 2 1
-open
-open
-end
-";
+const ROOT: Certificate = Certificate {
+    network: THREE_PAIRS,
+    text: THREE_PAIRS_CERTIFICATE,
+    changes: &[],
+};
 
 const ROOT_CASES: [Case; 20] = [
     (0, 0, "", "accepted 15 78/5"),
@@ -87,34 +35,14 @@ const ROOT_CASES: [Case; 20] = [
 ];
 
 /// No toll lets the first commodity take its toll-free road and the second the toll road.
-const APART: &str = "npp-certificate 1
-status budget
-width 64
-lower 15
-upper 23
-opened 3
-toll 0 3
-path 0 2 3 1 0
-path 1 2 3 3 0
-path 2 2 3 5 0
-cover 0 3
-start
-step 0 1
-step 1 0
-free 2
-cover 1 3
-start
-step 0 3
-step 1 0
-free 4
-cover 2 3
-start
-step 0 5
-step 1 0
-free 6
-cuts 0
-tree
-basic large
+const APART: Certificate = Certificate {
+    network: THREE_PAIRS,
+    text: THREE_PAIRS_CERTIFICATE,
+    changes: &[
+        (
+            28,
+            37,
+            "basic large
 split 0 1
 basic large
 split 1 0
@@ -126,9 +54,11 @@ y onelow 0 10
 y onelow 1 10
 leaf
 open
-open
-end
-";
+open",
+        ),
+        (5, 6, "upper 23\nopened 3"),
+    ],
+};
 
 /// In the last but one the right sides come to 0 in all.
 const APART_CASES: [Case; 8] = [
@@ -144,10 +74,10 @@ const APART_CASES: [Case; 8] = [
 
 #[test]
 fn a_dual_answer_is_judged_line_by_line(rt: HostRuntime) -> Result<(), Fail> {
-    expect_answers(&rt, rt.alloc(), SHARED, ROOT, &ROOT_CASES)
+    expect_answers(&rt, rt.alloc(), ROOT, &ROOT_CASES)
 }
 
 #[test]
 fn a_farkas_answer_is_judged_line_by_line(rt: HostRuntime) -> Result<(), Fail> {
-    expect_answers(&rt, rt.alloc(), SHARED, APART, &APART_CASES)
+    expect_answers(&rt, rt.alloc(), APART, &APART_CASES)
 }

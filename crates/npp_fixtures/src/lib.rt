@@ -1,7 +1,8 @@
 //! What tests and yardsticks are made of: instances by their texts, with their useful covers, families, choices and cuts of their
-//! paths, and numbers that are written for every width.
+//! paths, numbers that are written for every width, and certificates.
 #![tactic(auto)]
 
+mod certificates;
 mod cube;
 mod cuts;
 mod families;
@@ -9,9 +10,12 @@ mod multipliers;
 mod networks;
 mod numbers;
 
+pub use certificates::{
+    THREE_PAIRS, THREE_PAIRS_CERTIFICATE, TWO_ROADS, TWO_ROADS_CERTIFICATE, with_lines,
+};
 pub use cube::bent_cube;
 pub use cuts::{Cuts, are_cuts, cut, cuts_of};
 pub use families::{all_allowed, family, is_choice, is_family};
 pub use multipliers::{Named, multipliers_of};
-pub use networks::{THREE_PAIRS, covers_of, instance_of};
+pub use networks::{covers_of, instance_of};
 pub use numbers::{Number, fraction, write_numbers};

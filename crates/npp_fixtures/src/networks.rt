@@ -11,10 +11,6 @@ use npp_net::Instance;
 use npp_reader::{ReadRefusal, read};
 use std::alloc::Global;
 
-/// Three commodities share a toll arc of cost 2, each beside a toll-free arc of its own.
-pub const THREE_PAIRS: &str =
-    "npp 1\nnode a\nnode b\nnode p\nnode q\nnode r\ntoll a b 2\nfree p a 0\nfree p b 10\nfree q a 0\nfree q b 8\nfree r a 0\nfree r b 5\npair p b 1\npair q b 1\npair r b 3\n";
-
 /// The instance of a text.
 pub fn instance_of(alloc: Global, text: &str) -> Result<Instance, ReadRefusal> {
     Ok(read(alloc, text.as_bytes())?.instance)

@@ -1,74 +1,51 @@
 //! Two parallel arcs, and the refusal of a commodity without a toll-free walk.
 
-use npp_bounds::{BoundsRefusal, basic_bound, free_and_zero, least_costs};
-use npp_net::{ArcId, Commodity, Instance, NetArc, NodeId, Span};
-use std::alloc::Global;
+use crate::network::instance_of;
+use npp_bounds::{basic_bound, free_and_zero, least_costs};
+use npp_net::Instance;
+use std::alloc::{AllocError, Global};
 use std::test::Fail;
 
-const FREE: NetArc = NetArc {
-    tail: NodeId(0),
-    head: NodeId(1),
-    cost: 10,
-    toll: false,
-    ceiling: None,
-};
-
-const TOLL: NetArc = NetArc {
-    tail: NodeId(0),
-    head: NodeId(1),
-    cost: 2,
-    toll: true,
-    ceiling: None,
-};
-
-const THERE: Commodity = Commodity {
-    origin: NodeId(0),
-    destination: NodeId(1),
-    demand: 5,
-};
-
-const BACK: Commodity = Commodity {
-    origin: NodeId(1),
-    destination: NodeId(0),
-    demand: 5,
-};
-
-#[test]
-fn the_toll_arc_is_worth_the_difference(rt: HostRuntime) -> Result<(), Fail> {
-    let alloc = rt.alloc();
-    let net = Instance::new(
-        alloc,
-        2,
-        vec![in alloc; FREE, TOLL]?,
-        vec![in alloc; THERE]?,
-    )?;
-    let costs = least_costs(alloc, &net)?;
-    let span = Span { free: 10, zero: 2 };
-    assert_eq!(rt; costs.spans.as_slice(), [span].as_slice());
-    assert!(rt;
-        costs
-            .walks
-            .iter()
-            .all(|w| w.arcs.as_slice() == [ArcId(1)].as_slice())
-    );
-    assert_eq!(rt; basic_bound(&net, &costs.spans), 40);
-    let spans = free_and_zero(alloc, &net)?;
-    assert_eq!(rt; spans, costs.spans);
-    Ok(())
+/// The least costs with their walks, and the bound; or the refusal.
+fn bound_text(alloc: Global, net: &Instance) -> Result<String, AllocError> {
+    match least_costs(alloc, net) {
+        Ok(costs) => {
+            let bound = basic_bound(net, &costs.spans);
+            format!(in alloc; "{:?} {:?} {bound}", costs.spans, costs.walks)
+        }
+        Err(refusal) => format!(in alloc; "{refusal}"),
+    }
 }
 
+/// The least costs, or the refusal.
+fn spans_text(alloc: Global, net: &Instance) -> Result<String, AllocError> {
+    match free_and_zero(alloc, net) {
+        Ok(spans) => format!(in alloc; "{spans:?}"),
+        Err(refusal) => format!(in alloc; "{refusal:?}"),
+    }
+}
+
+/// Networks with their bounds and their spans.
+const BOUNDS: &[(&str, &str, &str)] = &[
+    (
+        "npp 1\nnode 0\nnode 1\nfree 0 1 10\ntoll 0 1 2\npair 0 1 5\n",
+        "[Span { free: 10, zero: 2 }] [Walk { arcs: [ArcId(1)] }] 40",
+        "[Span { free: 10, zero: 2 }]",
+    ),
+    (
+        "npp 1\nnode 0\nnode 1\nfree 0 1 10\npair 0 1 5\npair 1 0 5\n",
+        "no toll-free walk for commodity 1",
+        "NoFreePath(1)",
+    ),
+];
+
 #[test]
-fn a_commodity_without_a_free_walk_is_named(rt: HostRuntime) -> Result<(), Fail> {
+fn a_toll_arc_is_worth_the_difference(rt: HostRuntime) -> Result<(), Fail> {
     let alloc = rt.alloc();
-    let net = Instance::new(
-        alloc,
-        2,
-        vec![in alloc; FREE]?,
-        vec![in alloc; THERE, BACK]?,
-    )?;
-    let refusal = BoundsRefusal::NoFreePath(1);
-    assert_eq!(rt; free_and_zero(alloc, &net), Err(refusal));
-    let text = format!(in alloc; "{refusal}")?;
-    assert_eq!(rt; text.as_str(), "no toll-free walk for commodity 1");
+    for (text, bound, spans) in BOUNDS {
+        let net = instance_of(alloc, text)?;
+        let (got_bound, got_spans) = (bound_text(alloc, &net)?, spans_text(alloc, &net)?);
+        assert_eq!(rt; [got_bound.as_str(), got_spans.as_str()], [*bound, *spans]);
+    }
     Ok(())
 }

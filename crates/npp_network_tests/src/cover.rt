@@ -3,29 +3,15 @@
 ghost use Rattle.std.specs.Prelude.{◌<◌, IfOk, IfSome};
 ghost use Rattle.npp_net.specs.Distance.{IsSpan};
 
-use crate::network::arc;
+use crate::network::{DETOUR, cover_text, instance_of};
 use npp_cover::{Cover, CoverDraft, CoverFault, GrowingDraft, StepDraft, check_cover};
-use npp_net::{
-    ArcId, Commodity, Instance, Memory, NetArc, NetRefusal, NodeId, Span, TollId, TollSet, Walk,
-};
+use npp_net::{ArcId, Commodity, Instance, Memory, Span, Walk};
 use npp_short::distances_to;
 use std::alloc::{AllocError, Global};
 use std::test::Fail;
 
-/// A network with one commodity, from node 0 to the last node.
-fn network(alloc: Global, nodes: u32, arcs: &[NetArc]) -> Result<Instance, NetRefusal>
-    requires { 0 < nodes }
-{
-    let arcs = Vec::from_slice(alloc, arcs)?;
-    let pair = Commodity {
-        origin: NodeId(0),
-        destination: NodeId(nodes - 1),
-        demand: 1,
-    };
-    Instance::new(alloc, nodes, arcs, vec![in alloc; pair]?)
-}
-
-fn draft(
+/// A draft whose steps are given each by its parent and its arc.
+fn draft_of(
     alloc: Global,
     started: bool,
     steps: &[(u32, u32)],
@@ -60,198 +46,138 @@ fn span_of(alloc: Global, instance: &Instance, pair: Commodity) -> Result<Option
     }
 }
 
-/// The cover of a draft for the first commodity.
-fn check(alloc: Global, instance: &Instance, draft: CoverDraft) -> Result<Cover, CoverFault> {
+/// The cost of a toll-free walk, and the numbers of the sets of the labels.
+fn sets_text(alloc: Global, cover: &Cover) -> Result<String, AllocError> {
+    let mut text = format!(in alloc; "free at {}, sets", cover.free_cost())?;
+    for label in cover.labels() {
+        write!(text, " {}", label.tolls.number())?;
+    }
+    Ok(text)
+}
+
+/// What is said of the cover of a draft for the first commodity, or its fault.
+fn judged(alloc: Global, instance: &Instance, draft: CoverDraft) -> Result<String, Fail> {
     let pair = instance.commodities()[0];
     let potentials = distances_to(alloc, instance, pair.destination, true)?;
-    match span_of(alloc, instance, pair)? {
-        Some(span) => check_cover(alloc, instance, 0, span, &potentials, draft),
-        None => Err(CoverFault::Memory),
+    let span = span_of(alloc, instance, pair)?.ok_or("no toll-free walk")?;
+    match check_cover(alloc, instance, 0, span, &potentials, draft) {
+        Ok(cover) => {
+            let sets = sets_text(alloc, &cover)?;
+            Ok(format!(in alloc; "{sets}, {}", cover_text(alloc, &cover)?)?)
+        }
+        Err(fault) => Ok(format!(in alloc; "{fault:?}")?),
     }
 }
 
-/// The fault of a draft whose free walk is the first arc.
-fn fault(
-    alloc: Global,
-    instance: &Instance,
-    started: bool,
-    steps: &[(u32, u32)],
-) -> Option<CoverFault> {
-    let Ok(draft) = draft(alloc, started, steps, &[ArcId(0)]) else {
-        return Some(CoverFault::Memory);
-    };
-    match check(alloc, instance, draft) {
-        Ok(_) => None,
-        Err(fault) => Some(fault),
-    }
-}
+/// A draft by its network, whether it has a start, its steps and its toll-free walk.
+type DraftRow<'a> = (&'a str, bool, &'a [(u32, u32)], &'a [ArcId]);
 
-fn detour(alloc: Global) -> Result<Instance, NetRefusal> {
-    let arcs = [
-        arc(0, 2, 10, false),
-        arc(0, 1, 1, true),
-        arc(1, 2, 1, false),
-        arc(1, 2, 1, true),
-    ];
-    network(alloc, 3, &arcs)
-}
+/// A loop with a toll on the way.
+const LOOP: &str = "npp 1\nnode 0\nnode 1\nfree 0 1 10\ntoll 0 0 0\ntoll 0 1 1\npair 0 1 1\n";
+
+/// Three toll arcs side by side, two of one cost.
+const PARALLEL: &str =
+    "npp 1\nnode 0\nnode 1\nfree 0 1 10\ntoll 0 1 3\ntoll 0 1 3\ntoll 0 1 2\npair 0 1 1\n";
+
+/// Two toll-free arcs to node 1, of which the first is dearer and so not needed, and a toll arc on from there.
+const NOT_NEEDED: &str =
+    "npp 1\nnode 0\nnode 1\nnode 2\nfree 0 2 10\nfree 0 1 2\nfree 0 1 1\ntoll 1 2 1\npair 0 2 1\n";
+
+/// The toll-free walk by the first arc.
+const DIRECT: &[ArcId] = &[ArcId(0)];
+
+const DRAFTS: &[(DraftRow<'static>, &str)] = &[
+    (
+        (DETOUR, true, &[(0, 1), (1, 2)], DIRECT),
+        "free at 10, sets 0 1 1, 3 labels, 1 at 2 by [ArcId(1), ArcId(2)], 0 at 10 by [ArcId(0)]",
+    ),
+    ((DETOUR, false, &[], DIRECT), "MissingOrigin"),
+    ((DETOUR, true, &[(0, 1)], DIRECT), "NotClosed(1, ArcId(2))"),
+    ((DETOUR, false, &[(0, 1)], DIRECT), "NotAStep(0)"),
+    ((DETOUR, true, &[(1, 1)], DIRECT), "NotAStep(1)"),
+    ((DETOUR, true, &[(0, 4)], DIRECT), "NotAStep(1)"),
+    ((DETOUR, true, &[(0, 2)], DIRECT), "NotAStep(1)"),
+    ((DETOUR, true, &[(0, 0)], DIRECT), "Useless(1)"),
+    ((DETOUR, true, &[], &[ArcId(1), ArcId(2)]), "BadFree"),
+    ((LOOP, true, &[(0, 1), (1, 1)], DIRECT), "RepeatedToll(2)"),
+    (
+        (PARALLEL, true, &[(0, 2), (0, 1), (0, 3)], DIRECT),
+        "free at 10, sets 0 2 1 4, 4 labels, 4 at 2 by [ArcId(3)], 1 at 3 by [ArcId(1)], 2 at 3 by [ArcId(2)], 0 at 10 by [ArcId(0)]",
+    ),
+    ((NOT_NEEDED, true, &[], DIRECT), "NotClosed(0, ArcId(1))"),
+    (
+        (NOT_NEEDED, true, &[(0, 2), (1, 3)], DIRECT),
+        "free at 10, sets 0 0 1, 3 labels, 1 at 2 by [ArcId(2), ArcId(3)], 0 at 10 by [ArcId(0)]",
+    ),
+];
 
 #[test]
-fn the_first_fault_is_named(rt: HostRuntime) -> Result<(), Fail> {
+fn drafts_are_judged(rt: HostRuntime) -> Result<(), Fail> {
     let alloc = rt.alloc();
-    let net = detour(alloc)?;
-    assert_eq!(rt; fault(alloc, &net, true, &[(0, 1), (1, 2)]), None);
-    assert_eq!(rt;
-        fault(alloc, &net, false, &[]),
-        Some(CoverFault::MissingOrigin)
-    );
-    assert_eq!(rt;
-        fault(alloc, &net, true, &[(0, 1)]),
-        Some(CoverFault::NotClosed(1, ArcId(2)))
-    );
-    assert_eq!(rt;
-        fault(alloc, &net, false, &[(0, 1)]),
-        Some(CoverFault::NotAStep(0))
-    );
-    assert_eq!(rt;
-        fault(alloc, &net, true, &[(1, 1)]),
-        Some(CoverFault::NotAStep(1))
-    );
-    assert_eq!(rt;
-        fault(alloc, &net, true, &[(0, 4)]),
-        Some(CoverFault::NotAStep(1))
-    );
-    assert_eq!(rt;
-        fault(alloc, &net, true, &[(0, 2)]),
-        Some(CoverFault::NotAStep(1))
-    );
-    assert_eq!(rt;
-        fault(alloc, &net, true, &[(0, 0)]),
-        Some(CoverFault::Useless(1))
-    );
+    for ((text, started, steps, free), want) in DRAFTS {
+        let net = instance_of(alloc, text)?;
+        let draft = draft_of(alloc, *started, steps, free)?;
+        let got = judged(alloc, &net, draft)?;
+        assert_eq!(rt; got.as_str(), *want);
+    }
     Ok(())
 }
 
 /// The start counts as a label.
+const COUNTS: &[(bool, usize, &str)] = &[
+    (true, 65_535, "NotClosed(1, ArcId(2))"),
+    (true, 65_536, "TooManyLabels"),
+    (false, 65_536, "NotAStep(0)"),
+];
+
 #[test]
 fn labels_are_counted_first(rt: HostRuntime) -> Result<(), Fail> {
     let alloc = rt.alloc();
-    let net = detour(alloc)?;
-    let mut steps = Vec::new(alloc);
-    for _ in 0..65_535 {
-        steps.push((0, 1))?;
+    let net = instance_of(alloc, DETOUR)?;
+    for (started, count, want) in COUNTS {
+        let steps = vec![in alloc; (0, 1); *count]?;
+        let draft = draft_of(alloc, *started, &steps, DIRECT)?;
+        let got = judged(alloc, &net, draft)?;
+        assert_eq!(rt; got.as_str(), *want);
     }
-    assert_eq!(rt;
-        fault(alloc, &net, true, &steps),
-        Some(CoverFault::NotClosed(1, ArcId(2)))
-    );
-    steps.push((0, 1))?;
-    assert_eq!(rt;
-        fault(alloc, &net, true, &steps),
-        Some(CoverFault::TooManyLabels)
-    );
-    assert_eq!(rt;
-        fault(alloc, &net, false, &steps),
-        Some(CoverFault::NotAStep(0))
-    );
     Ok(())
+}
+
+fn step(parent: u32, arc: u32) -> StepDraft {
+    StepDraft {
+        parent,
+        arc: ArcId(arc),
+    }
 }
 
 /// Each fault is answered at once, and leaves the draft as it was.
 #[test]
 fn a_draft_grows_label_by_label(rt: HostRuntime) -> Result<(), Fail> {
     let alloc = rt.alloc();
-    let net = detour(alloc)?;
+    let net = instance_of(alloc, DETOUR)?;
     let pair = net.commodities()[0];
     let potentials = distances_to(alloc, &net, pair.destination, true)?;
-    let Some(span) = span_of(alloc, &net, pair)? else {
-        return Err(Fail::from("no toll-free walk"));
-    };
+    let span = span_of(alloc, &net, pair)?.ok_or("no toll-free walk")?;
     let mut draft = GrowingDraft::new(alloc, 0, span);
-    let step = |parent: u32, arc: u32| StepDraft {
-        parent,
-        arc: ArcId(arc),
-    };
-    assert_eq!(rt;
-        draft.step(&net, &potentials, step(0, 1)),
-        Err(CoverFault::NotAStep(0))
-    );
+    let early = draft.step(&net, &potentials, step(0, 1));
     draft.start(&net, &potentials)?;
-    assert_eq!(rt;
+    let answers = [
+        early,
         draft.step(&net, &potentials, step(0, 0)),
-        Err(CoverFault::Useless(1))
-    );
-    draft.step(&net, &potentials, step(0, 1))?;
-    assert_eq!(rt;
+        draft.step(&net, &potentials, step(0, 1)),
         draft.step(&net, &potentials, step(2, 2)),
-        Err(CoverFault::NotAStep(2))
-    );
-    draft.step(&net, &potentials, step(1, 2))?;
-    let free = Walk {
-        arcs: vec![in alloc; ArcId(0)]?,
-    };
-    let cover = draft.close(alloc, &net, &potentials, free)?;
-    assert_eq!(rt; cover.labels().len(), 3);
-    assert_eq!(rt; cover.paths().len(), 2);
-    Ok(())
-}
-
-#[test]
-fn walks_are_judged(rt: HostRuntime) -> Result<(), Fail> {
-    let alloc = rt.alloc();
-    let net = detour(alloc)?;
-    let other = draft(alloc, true, &[], &[ArcId(1), ArcId(2)])?;
-    assert!(rt; matches!(&check(alloc, &net, other), Err(CoverFault::BadFree)));
-    let arcs = [arc(0, 1, 10, false), arc(0, 0, 0, true), arc(0, 1, 1, true)];
-    let looped = network(alloc, 2, &arcs)?;
-    assert_eq!(rt;
-        fault(alloc, &looped, true, &[(0, 1), (1, 1)]),
-        Some(CoverFault::RepeatedToll(2))
-    );
-    Ok(())
-}
-
-#[test]
-fn paths_stand_in_their_order(rt: HostRuntime) -> Result<(), Fail> {
-    let alloc = rt.alloc();
-    let arcs = [
-        arc(0, 1, 10, false),
-        arc(0, 1, 3, true),
-        arc(0, 1, 3, true),
-        arc(0, 1, 2, true),
+        draft.step(&net, &potentials, step(1, 2)),
     ];
-    let net = network(alloc, 2, &arcs)?;
-    let cover = check(
-        alloc,
-        &net,
-        draft(alloc, true, &[(0, 2), (0, 1), (0, 3)], &[ArcId(0)])?,
-    )?;
-    let paths = cover.paths();
-    assert_eq!(rt; paths.len(), 4);
-    assert_eq!(rt; paths[0].tolls.number(), 4);
-    assert_eq!(rt; paths[1].tolls.number(), 1);
-    assert_eq!(rt; paths[2].walk.arcs.as_slice(), [ArcId(2)].as_slice());
-    assert_eq!(rt; paths[3].tolls, TollSet::empty());
-    assert_eq!(rt; cover.free_cost(), 10);
-    let labels = cover.labels();
-    assert_eq!(rt; labels.len(), 4);
-    assert_eq!(rt; labels[1].tolls, TollSet::empty().with(TollId(1)));
-    Ok(())
-}
-
-/// Two toll-free arcs to node 1, of which the first is dearer and so not needed, and a toll arc on from there.
-#[test]
-fn the_first_open_arc_may_be_one_that_is_not_needed(rt: HostRuntime) -> Result<(), Fail> {
-    let alloc = rt.alloc();
-    let arcs = [
-        arc(0, 2, 10, false),
-        arc(0, 1, 2, false),
-        arc(0, 1, 1, false),
-        arc(1, 2, 1, true),
+    let want = [
+        Err(CoverFault::NotAStep(0)),
+        Err(CoverFault::Useless(1)),
+        Ok(()),
+        Err(CoverFault::NotAStep(2)),
+        Ok(()),
     ];
-    let net = network(alloc, 3, &arcs)?;
-    let first = CoverFault::NotClosed(0, ArcId(1));
-    assert_eq!(rt; fault(alloc, &net, true, &[]), Some(first));
-    assert_eq!(rt; fault(alloc, &net, true, &[(0, 2), (1, 3)]), None);
+    assert_eq!(rt; answers, want);
+    let arcs = Vec::from_slice(alloc, DIRECT)?;
+    let cover = draft.close(alloc, &net, &potentials, Walk { arcs })?;
+    assert_eq!(rt; (cover.labels().len(), cover.paths().len()), (3, 2));
     Ok(())
 }

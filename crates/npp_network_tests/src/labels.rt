@@ -2,45 +2,32 @@
 
 ghost use Rattle.std.specs.Prelude.{◌<◌};
 
-use crate::network::arc;
+use crate::network::{DETOUR, cover_text, instance_of};
 use npp_bounds::free_and_zero;
 use npp_cover::{Cover, CoverDraft, CoverFault, StepDraft, check_cover};
 use npp_labels::{CoversRefusal, LabelRefusal, useful, useful_all};
-use npp_net::{ArcId, Commodity, Instance, NetArc, NetRefusal, NodeId, Walk};
+use npp_net::{Instance, Walk};
 use npp_short::distances_to;
 use std::alloc::{AllocError, Global};
 use std::test::Fail;
 
-/// A network with one commodity from node 0 to the last node, or with more such commodities from the given nodes.
-fn network(
-    alloc: Global,
-    nodes: u32,
-    arcs: &[NetArc],
-    origins: &[u32],
-) -> Result<Instance, NetRefusal>
-    requires { 0 < nodes }
-{
-    let mut pairs = Vec::new(alloc);
-    for origin in origins {
-        pairs.push(Commodity {
-            origin: NodeId(*origin),
-            destination: NodeId(nodes - 1),
-            demand: 1,
-        })?;
-    }
-    Instance::new(alloc, nodes, Vec::from_slice(alloc, arcs)?, pairs)
-}
-
-/// A chain of so many links, each a toll-free arc of cost 1 beside a toll arc of cost 0.
-fn chain(alloc: Global, links: u32, origins: &[u32]) -> Result<Instance, NetRefusal>
+/// A chain of so many links, each a toll-free arc of cost 1 beside a toll arc of cost 0. A commodity goes to its end from each of
+/// the given nodes.
+fn chain(alloc: Global, links: u32, origins: &[u32]) -> Result<String, AllocError>
     requires { links < 1000 }
 {
-    let mut arcs = Vec::new(alloc);
+    let mut text = String::from_str(alloc, "npp 1\nnode 0\n")?;
     for node in 0..links {
-        arcs.push(arc(node, node + 1, 1, false))?;
-        arcs.push(arc(node, node + 1, 0, true))?;
+        let next = node + 1;
+        write!(
+            text,
+            "node {next}\nfree {node} {next} 1\ntoll {node} {next} 0\n"
+        )?;
     }
-    network(alloc, links + 1, &arcs, origins)
+    for origin in origins {
+        write!(text, "pair {origin} {links} 1\n")?;
+    }
+    Ok(text)
 }
 
 /// The useful covers of an instance whose commodities have toll-free walks.
@@ -60,98 +47,101 @@ fn first(alloc: Global, instance: &Instance) -> Result<Cover, LabelRefusal> {
     }
 }
 
-/// Whether the paths are these, in order, each by the number of its set, its cost and its arcs.
-fn has_paths(cover: &Cover, rows: &[(u128, u64, &[ArcId])]) -> bool {
-    let paths = cover.paths();
-    if paths.len() != rows.len() {
-        return false;
+/// What is said of the useful cover of each commodity of a network.
+fn covers_text(alloc: Global, network: &str) -> Result<String, Fail> {
+    let mut text = String::new(alloc);
+    for cover in &covers(alloc, &instance_of(alloc, network)?)? {
+        write!(text, "{}\n", cover_text(alloc, cover)?)?;
     }
-    for (i, (tolls, cost, arcs)) in rows.iter().enumerate() {
-        let path = &paths[i];
-        if path.tolls.number() != *tolls
-            || path.cost != *cost
-            || path.walk.arcs.as_slice() != *arcs
-        {
-            return false;
-        }
-    }
-    true
+    Ok(text)
 }
 
-/// A detour by a toll arc that costs 2, a second toll arc on it that gains nothing, and a direct arc that costs 10.
-fn detour(alloc: Global, origins: &[u32]) -> Result<Instance, NetRefusal> {
-    let arcs = [
-        arc(0, 2, 10, false),
-        arc(0, 1, 1, true),
-        arc(1, 2, 1, false),
-        arc(1, 2, 1, true),
-    ];
-    network(alloc, 3, &arcs, origins)
-}
-
-#[test]
-fn a_path_with_a_needless_toll_is_not_useful(rt: HostRuntime) -> Result<(), Fail> {
-    let alloc = rt.alloc();
-    let cover = first(alloc, &detour(alloc, &[0])?)?;
-    assert_eq!(rt; cover.labels().len(), 3);
-    let by_toll = [ArcId(1), ArcId(2)];
-    assert!(rt; has_paths(&cover, &[(1, 2, &by_toll), (0, 10, &[ArcId(0)])]));
-    Ok(())
-}
-
-#[test]
-fn each_commodity_has_its_cover(rt: HostRuntime) -> Result<(), Fail> {
-    let alloc = rt.alloc();
-    let one = covers(alloc, &detour(alloc, &[0])?)?;
-    assert_eq!(rt; one.len(), 1);
-    let two = covers(alloc, &detour(alloc, &[1, 0])?)?;
-    assert_eq!(rt; two.len(), 2);
-    assert_eq!(rt; two[0].labels().len(), 0);
-    assert!(rt; has_paths(&two[0], &[(0, 1, &[ArcId(2)])]));
-    let by_toll = [ArcId(1), ArcId(2)];
-    assert!(rt; has_paths(&two[1], &[(1, 2, &by_toll), (0, 10, &[ArcId(0)])]));
-    Ok(())
+/// What is said of the useful cover of the first commodity of a network.
+fn first_text(alloc: Global, network: &str) -> Result<String, Fail> {
+    let cover = first(alloc, &instance_of(alloc, network)?)?;
+    Ok(format!(in alloc; "{}\n", cover_text(alloc, &cover)?)?)
 }
 
 /// Two parallel toll arcs, then a loop with a toll and one without, then a cycle that costs nothing.
+const LOOPS: &str =
+    "npp 1\nnode 0\nnode 1\nnode 2\nnode 3\nfree 0 3 10\ntoll 0 1 2\ntoll 0 1 2\nfree 1 1 0\ntoll 1 1 0\nfree 1 2 0\nfree 2 1 0\nfree 2 3 1\npair 0 3 1\n";
+
+/// Toll-free arcs to node 1 of which the first is the cheapest, toll arcs there that cost no less than it, and two that cost
+/// less, with a loop.
+const NEEDED: &str =
+    "npp 1\nnode 0\nnode 1\nnode 2\nfree 0 2 9\nfree 0 1 3\nfree 0 1 3\nfree 0 1 5\ntoll 0 1 3\ntoll 0 1 4\ntoll 0 1 1\ntoll 0 1 1\nfree 1 1 0\ntoll 1 2 1\npair 0 2 1\n";
+
+/// Networks of one commodity. The second toll on the detour is needless.
+const COVERS: &[(&str, &str)] = &[
+    (
+        DETOUR,
+        "3 labels, 1 at 2 by [ArcId(1), ArcId(2)], 0 at 10 by [ArcId(0)]\n",
+    ),
+    (
+        LOOPS,
+        "7 labels, 1 at 3 by [ArcId(1), ArcId(5), ArcId(7)], 2 at 3 by [ArcId(2), ArcId(5), ArcId(7)], 0 at 10 by [ArcId(0)]\n",
+    ),
+    (
+        NEEDED,
+        "7 labels, 20 at 2 by [ArcId(6), ArcId(9)], 24 at 2 by [ArcId(7), ArcId(9)], 16 at 4 by [ArcId(1), ArcId(9)], 0 at 9 by [ArcId(0)]\n",
+    ),
+];
+
 #[test]
-fn loops_and_cycles_give_no_more_labels(rt: HostRuntime) -> Result<(), Fail> {
+fn useful_paths_stand_in_their_order(rt: HostRuntime) -> Result<(), Fail> {
     let alloc = rt.alloc();
-    let arcs = [
-        arc(0, 3, 10, false),
-        arc(0, 1, 2, true),
-        arc(0, 1, 2, true),
-        arc(1, 1, 0, false),
-        arc(1, 1, 0, true),
-        arc(1, 2, 0, false),
-        arc(2, 1, 0, false),
-        arc(2, 3, 1, false),
-    ];
-    let cover = first(alloc, &network(alloc, 4, &arcs, &[0])?)?;
-    assert_eq!(rt; cover.labels().len(), 7);
-    let by_first = [ArcId(1), ArcId(5), ArcId(7)];
-    let by_second = [ArcId(2), ArcId(5), ArcId(7)];
-    assert!(rt;
-        has_paths(
-            &cover,
-            &[(1, 3, &by_first), (2, 3, &by_second), (0, 10, &[ArcId(0)])]
-        )
+    for (network, want) in COVERS {
+        let (one, all) = (first_text(alloc, network)?, covers_text(alloc, network)?);
+        assert_eq!(rt; [one.as_str(), all.as_str()], [*want; 2]);
+    }
+    Ok(())
+}
+
+/// The detour with a commodity from node 1, and then one from node 0.
+const TWO_PAIRS: &str =
+    "npp 1\nnode 0\nnode 1\nnode 2\nfree 0 2 10\ntoll 0 1 1\nfree 1 2 1\ntoll 1 2 1\npair 1 2 1\npair 0 2 1\n";
+
+#[test]
+fn each_commodity_has_its_cover(rt: HostRuntime) -> Result<(), Fail> {
+    let got = covers_text(rt.alloc(), TWO_PAIRS)?;
+    assert_eq!(rt;
+        got.as_str(),
+        "0 labels, 0 at 1 by [ArcId(2)]\n3 labels, 1 at 2 by [ArcId(1), ArcId(2)], 0 at 10 by [ArcId(0)]\n"
     );
     Ok(())
+}
+
+/// Chains by their links and the origins of their commodities, and how their covers are refused.
+const LONG_CHAINS: &[(u32, &[u32], CoversRefusal)] = &[
+    (11, &[0], CoversRefusal::TooManyPaths(0)),
+    (11, &[1, 1], CoversRefusal::TooManyPaths(1)),
+    (16, &[15, 0], CoversRefusal::TooManyLabels(1)),
+    (16, &[0], CoversRefusal::TooManyLabels(0)),
+];
+
+/// How the covers of a chain of fewer than 1,000 links are refused.
+fn chain_refusal(
+    alloc: Global,
+    links: u32,
+    origins: &[u32],
+) -> Result<Option<CoversRefusal>, Fail> {
+    if links >= 1000 {
+        return Err("too long a chain")?;
+    }
+    let text = chain(alloc, links, origins)?;
+    Ok(covers(alloc, &instance_of(alloc, text.as_str())?).err())
 }
 
 #[test]
 fn chains_pass_the_limits(rt: HostRuntime) -> Result<(), Fail> {
     let alloc = rt.alloc();
-    let net = chain(alloc, 11, &[0])?;
-    assert_eq!(rt; first(alloc, &net)?.paths().len(), 2048);
-    assert!(rt; matches!(&covers(alloc, &net), Err(CoversRefusal::TooManyPaths(0))));
-    let net = chain(alloc, 11, &[1, 1])?;
-    assert!(rt; matches!(&covers(alloc, &net), Err(CoversRefusal::TooManyPaths(1))));
-    let net = chain(alloc, 16, &[15, 0])?;
-    assert!(rt; matches!(&covers(alloc, &net), Err(CoversRefusal::TooManyLabels(1))));
-    let net = chain(alloc, 16, &[0])?;
-    assert!(rt; matches!(&covers(alloc, &net), Err(CoversRefusal::TooManyLabels(0))));
+    for (links, origins, want) in LONG_CHAINS {
+        let refusal = chain_refusal(alloc, *links, origins)?;
+        assert_eq!(rt; refusal, Some(*want));
+    }
+    let text = chain(alloc, 11, &[0])?;
+    let cover = first(alloc, &instance_of(alloc, text.as_str())?)?;
+    assert_eq!(rt; cover.paths().len(), 2048);
     Ok(())
 }
 
@@ -190,63 +180,35 @@ fn checked(alloc: Global, instance: &Instance, draft: CoverDraft) -> Result<Cove
 #[test]
 fn the_draft_of_a_useful_cover_gives_it_again(rt: HostRuntime) -> Result<(), Fail> {
     let alloc = rt.alloc();
-    let net = chain(alloc, 6, &[0])?;
+    let text = chain(alloc, 6, &[0])?;
+    let net = instance_of(alloc, text.as_str())?;
     let cover = first(alloc, &net)?;
     let again = checked(alloc, &net, draft_of(alloc, &cover)?)?;
-    assert_eq!(rt; again.labels().len(), 126);
-    assert_eq!(rt; again.labels(), cover.labels());
-    assert_eq!(rt; again.paths(), cover.paths());
+    let same = (
+        again.labels() == cover.labels(),
+        again.paths() == cover.paths(),
+    );
+    assert_eq!(rt; (again.labels().len(), same), (126, (true, true)));
     Ok(())
 }
 
-/// The last of 128 parallel toll arcs alone gains something.
+/// 128 parallel toll arcs, of which the last alone gains something.
+fn many_tolls(alloc: Global) -> Result<String, AllocError> {
+    let mut text = String::from_str(alloc, "npp 1\nnode 0\nnode 1\nfree 0 1 10\n")?;
+    for _ in 0..127 {
+        text.push_str("toll 0 1 10\n")?;
+    }
+    text.push_str("toll 0 1 3\npair 0 1 1\n")?;
+    Ok(text)
+}
+
 #[test]
 fn the_last_of_many_tolls_is_listed(rt: HostRuntime) -> Result<(), Fail> {
-    let alloc = rt.alloc();
-    let mut arcs = Vec::new(alloc);
-    arcs.push(arc(0, 1, 10, false))?;
-    for _ in 0..127 {
-        arcs.push(arc(0, 1, 10, true))?;
-    }
-    arcs.push(arc(0, 1, 3, true))?;
-    let cover = first(alloc, &network(alloc, 2, &arcs, &[0])?)?;
-    let last = 170_141_183_460_469_231_731_687_303_715_884_105_728;
-    assert!(rt; has_paths(&cover, &[(last, 3, &[ArcId(128)]), (0, 10, &[ArcId(0)])]));
-    Ok(())
-}
-
-/// Toll-free arcs to node 1 of which the first is the cheapest, toll arcs there that cost no less than it, and two that cost
-/// less, with a loop.
-#[test]
-fn of_parallel_arcs_the_needed_ones_are_taken(rt: HostRuntime) -> Result<(), Fail> {
-    let alloc = rt.alloc();
-    let arcs = [
-        arc(0, 2, 9, false),
-        arc(0, 1, 3, false),
-        arc(0, 1, 3, false),
-        arc(0, 1, 5, false),
-        arc(0, 1, 3, true),
-        arc(0, 1, 4, true),
-        arc(0, 1, 1, true),
-        arc(0, 1, 1, true),
-        arc(1, 1, 0, false),
-        arc(1, 2, 1, true),
-    ];
-    let cover = first(alloc, &network(alloc, 3, &arcs, &[0])?)?;
-    assert_eq!(rt; cover.labels().len(), 7);
-    let by_first = [ArcId(6), ArcId(9)];
-    let by_second = [ArcId(7), ArcId(9)];
-    let by_free = [ArcId(1), ArcId(9)];
-    assert!(rt;
-        has_paths(
-            &cover,
-            &[
-                (20, 2, &by_first),
-                (24, 2, &by_second),
-                (16, 4, &by_free),
-                (0, 9, &[ArcId(0)]),
-            ]
-        )
+    let text = many_tolls(rt.alloc())?;
+    let got = first_text(rt.alloc(), text.as_str())?;
+    assert_eq!(rt;
+        got.as_str(),
+        "2 labels, 170141183460469231731687303715884105728 at 3 by [ArcId(128)], 0 at 10 by [ArcId(0)]\n"
     );
     Ok(())
 }

@@ -39,44 +39,46 @@ fn expect_answer(
     Ok(())
 }
 
+/// Texts, with their canonical texts or their first faulty lines.
+const TEXTS: &[(&str, &str)] = &[
+    (SMALL, SMALL),
+    (
+        "# a remark\r\n\r\n \tnpp\t 1 \r\nnode a\r\n  # node c\r\nnode  b\r\nfree a b 0010\r\ntoll a b 2\r\n\npair a b 5",
+        SMALL,
+    ),
+    ("", "line 1: Header"),
+    ("\n# npp 1\n", "line 3: Header"),
+    ("npp 3\n", "line 1: Header"),
+    ("npp 1\nnode a\nnode a\n", "line 3: RepeatedNode"),
+    (
+        "npp 1\nnode a\nnode b\nfree a b 1000001\n",
+        "line 4: NumberTooLarge",
+    ),
+    (
+        "npp 1\nnode a\nnode b\nfree a c 10\n",
+        "line 4: UnknownNode",
+    ),
+    ("npp 1\nnode a\nnode b\npair a b 0\n", "line 4: ZeroDemand"),
+    ("npp 1\nnode a\nnode b\npair a a 5\n", "line 4: SameEnds"),
+    (
+        "npp 1\nnode a\nnode b\nfree a b 10\ntoll a b 2\n",
+        "line 6: NoCommodity",
+    ),
+    ("npp 1\nedge a b 1\n", "line 2: UnknownWord"),
+    ("npp 1\nnode a b\n", "line 2: FieldCount"),
+    ("npp 1\nfree a+ b 1x\n", "line 2: BadName"),
+    ("npp 1\nfree a b 1x\n", "line 2: BadNumber"),
+    ("npp 1\nfree a b 0000000000000000001\n", "line 2: BadNumber"),
+    ("npp 1\nnode \0\n", "line 2: BadName"),
+    (
+        "npp 1\nnode a\nnode b\ntoll a b 2 -\n",
+        "line 4: FieldCount",
+    ),
+];
+
 #[test]
 fn reads_and_refuses(rt: HostRuntime) -> Result<(), Fail> {
-    let cases = [
-        (SMALL, SMALL),
-        (
-            "# a remark\r\n\r\n \tnpp\t 1 \r\nnode a\r\n  # node c\r\nnode  b\r\nfree a b 0010\r\ntoll a b 2\r\n\npair a b 5",
-            SMALL,
-        ),
-        ("", "line 1: Header"),
-        ("\n# npp 1\n", "line 3: Header"),
-        ("npp 3\n", "line 1: Header"),
-        ("npp 1\nnode a\nnode a\n", "line 3: RepeatedNode"),
-        (
-            "npp 1\nnode a\nnode b\nfree a b 1000001\n",
-            "line 4: NumberTooLarge",
-        ),
-        (
-            "npp 1\nnode a\nnode b\nfree a c 10\n",
-            "line 4: UnknownNode",
-        ),
-        ("npp 1\nnode a\nnode b\npair a b 0\n", "line 4: ZeroDemand"),
-        ("npp 1\nnode a\nnode b\npair a a 5\n", "line 4: SameEnds"),
-        (
-            "npp 1\nnode a\nnode b\nfree a b 10\ntoll a b 2\n",
-            "line 6: NoCommodity",
-        ),
-        ("npp 1\nedge a b 1\n", "line 2: UnknownWord"),
-        ("npp 1\nnode a b\n", "line 2: FieldCount"),
-        ("npp 1\nfree a+ b 1x\n", "line 2: BadName"),
-        ("npp 1\nfree a b 1x\n", "line 2: BadNumber"),
-        ("npp 1\nfree a b 0000000000000000001\n", "line 2: BadNumber"),
-        ("npp 1\nnode \0\n", "line 2: BadName"),
-        (
-            "npp 1\nnode a\nnode b\ntoll a b 2 -\n",
-            "line 4: FieldCount",
-        ),
-    ];
-    for (text, want) in cases {
+    for (text, want) in TEXTS {
         expect_answer(&rt, rt.alloc(), text.as_bytes(), want)?;
     }
     expect_answer(&rt, rt.alloc(), b"# \xff\n", "line 1: Utf8")?;
@@ -88,32 +90,36 @@ fn with_toll(alloc: Global, line: &str) -> Result<String, AllocError> {
     format!(in alloc; "npp 2\nnode a\nnode b\nfree a b 10\n{line}\npair a b 5\n")
 }
 
+/// Two toll arcs, of which the second has no ceiling.
+const TWO_CEILINGS: &str =
+    "npp 2\nnode a\nnode b\nfree a b 10\ntoll a b 2 3\ntoll a b 4 -\npair a b 5\n";
+
+/// Lines in the place of the toll arc of `CEILING`.
+const TOLL_LINES: &[(&str, &str)] = &[
+    ("toll a b 2 3", CEILING),
+    ("toll a b 2 3\ntoll a b 4 -", TWO_CEILINGS),
+    ("toll a b 2 -", SMALL),
+    ("toll a b 2 003", CEILING),
+    ("toll a b 2", "line 5: FieldCount"),
+    ("toll a b 2 3 4", "line 5: FieldCount"),
+    ("toll a b 2 x", "line 5: BadNumber"),
+    ("toll a b 2 --", "line 5: BadNumber"),
+    ("toll a b 2 1000000001", "line 5: NumberTooLarge"),
+    ("toll a b 1000001 x", "line 5: BadNumber"),
+    ("toll a c 2 1000000001", "line 5: NumberTooLarge"),
+    ("free a b 2 3", "line 5: FieldCount"),
+];
+
 #[test]
 fn reads_ceilings(rt: HostRuntime) -> Result<(), Fail> {
     let alloc = rt.alloc();
-    let two_ceilings =
-        "npp 2\nnode a\nnode b\nfree a b 10\ntoll a b 2 3\ntoll a b 4 -\npair a b 5\n";
-    expect_answer(&rt, alloc, CEILING.as_bytes(), CEILING)?;
-    expect_answer(&rt, alloc, two_ceilings.as_bytes(), two_ceilings)?;
-    let cases = [
-        ("toll a b 2 -", SMALL),
-        ("toll a b 2 003", CEILING),
-        ("toll a b 2", "line 5: FieldCount"),
-        ("toll a b 2 3 4", "line 5: FieldCount"),
-        ("toll a b 2 x", "line 5: BadNumber"),
-        ("toll a b 2 --", "line 5: BadNumber"),
-        ("toll a b 2 1000000001", "line 5: NumberTooLarge"),
-        ("toll a b 1000001 x", "line 5: BadNumber"),
-        ("toll a c 2 1000000001", "line 5: NumberTooLarge"),
-        ("free a b 2 3", "line 5: FieldCount"),
-    ];
-    for (line, want) in cases {
+    for (line, want) in TOLL_LINES {
         let text = with_toll(alloc, line)?;
         expect_answer(&rt, alloc, text.as_bytes(), want)?;
     }
     let document = read(alloc, CEILING.as_bytes())?;
-    let arcs = document.instance.arcs();
-    assert!(rt; arcs.iter().any(|x| x.ceiling == Some(3)));
+    let last = document.instance.arcs().last();
+    assert_eq!(rt; last.map(|x| x.ceiling), Some(Some(3)));
     Ok(())
 }
 
@@ -145,31 +151,33 @@ fn long_line(alloc: Global) -> Result<String, AllocError> {
     Ok(text)
 }
 
+/// The header and so many nodes.
+const NODE_COUNTS: &[(u32, &str)] = &[
+    (1000, "line 1002: NoCommodity"),
+    (1001, "line 1002: TooManyNodes"),
+];
+
+/// The header, two nodes and so many equal lines.
+const LINE_COUNTS: &[(&str, u32, &str)] = &[
+    ("free 0 1 7\n", 5001, "line 5004: TooManyArcs"),
+    ("toll 0 1 7\n", 128, "line 132: NoCommodity"),
+    ("toll 0 1 7\n", 129, "line 132: TooManyTolls"),
+    ("pair 0 1 7\n", 101, "line 104: TooManyCommodities"),
+];
+
 #[test]
 fn refuses_past_the_limits(rt: HostRuntime) -> Result<(), Fail> {
     let alloc = rt.alloc();
-    expect_answer(
-        &rt,
-        alloc,
-        many_nodes(alloc, 1000)?.as_bytes(),
-        "line 1002: NoCommodity",
-    )?;
-    expect_answer(
-        &rt,
-        alloc,
-        many_nodes(alloc, 1001)?.as_bytes(),
-        "line 1002: TooManyNodes",
-    )?;
-    let cases = [
-        ("free 0 1 7\n", 5001, "line 5004: TooManyArcs"),
-        ("toll 0 1 7\n", 128, "line 132: NoCommodity"),
-        ("toll 0 1 7\n", 129, "line 132: TooManyTolls"),
-        ("pair 0 1 7\n", 101, "line 104: TooManyCommodities"),
-    ];
-    for (line, count, want) in cases {
-        expect_answer(&rt, alloc, many_lines(alloc, line, count)?.as_bytes(), want)?;
+    for (count, want) in NODE_COUNTS {
+        let text = many_nodes(alloc, *count)?;
+        expect_answer(&rt, alloc, text.as_bytes(), want)?;
     }
-    expect_answer(&rt, alloc, long_line(alloc)?.as_bytes(), "line 1: Header")?;
+    for (line, count, want) in LINE_COUNTS {
+        let text = many_lines(alloc, line, *count)?;
+        expect_answer(&rt, alloc, text.as_bytes(), want)?;
+    }
+    let text = long_line(alloc)?;
+    expect_answer(&rt, alloc, text.as_bytes(), "line 1: Header")?;
     Ok(())
 }
 
@@ -180,11 +188,10 @@ fn takes_names(rt: HostRuntime) -> Result<(), Fail> {
     texts.push(String::from_str(alloc, "a")?)?;
     texts.push(String::from_str(alloc, "b-2")?)?;
     let names = Names::new(alloc, texts)?;
-    assert_eq!(rt; names.len(), 2);
-    assert!(rt; !names.is_empty());
+    assert_eq!(rt; (names.len(), names.is_empty()), (2, false));
     assert_eq!(rt; names.name(NodeId(1)), "b-2");
-    assert_eq!(rt; names.find("b-2"), Some(NodeId(1)));
-    assert_eq!(rt; names.find("c"), None);
+    let found = [names.find("b-2"), names.find("c")];
+    assert_eq!(rt; found, [Some(NodeId(1)), None]);
     Ok(())
 }
 

@@ -1,8 +1,8 @@
 //! Each single change of the smallest certificate is refused or leaves both values as they are.
 
+use npp_fixtures::instance_of;
 use npp_frac::print_fraction;
 use npp_net::Instance;
-use npp_reader::read;
 use npp_stream::check_text;
 use std::alloc::Global;
 use std::process::Abort;
@@ -69,10 +69,10 @@ fn expect_of_bytes(
 #[test]
 fn a_changed_byte_changes_no_value(rt: HostRuntime) -> Result<(), Fail> {
     let alloc = rt.alloc();
-    let document = read(alloc, NO_TOLL.as_bytes())?;
+    let network = instance_of(alloc, NO_TOLL)?;
     for at in 0..NO_TOLL_CERTIFICATE.len() {
         let mut bytes = Vec::from_slice(alloc, NO_TOLL_CERTIFICATE.as_bytes())?;
-        expect_of_bytes(&rt, alloc, &document.instance, &mut bytes, at)?;
+        expect_of_bytes(&rt, alloc, &network, &mut bytes, at)?;
     }
     Ok(())
 }
@@ -80,13 +80,13 @@ fn a_changed_byte_changes_no_value(rt: HostRuntime) -> Result<(), Fail> {
 #[test]
 fn only_the_whole_text_is_accepted(rt: HostRuntime) -> Result<(), Fail> {
     let alloc = rt.alloc();
-    let document = read(alloc, NO_TOLL.as_bytes())?;
+    let network = instance_of(alloc, NO_TOLL)?;
     let bytes = NO_TOLL_CERTIFICATE.as_bytes();
     for end in 0..bytes.len() {
-        let accepted = expect_no_other_value(&rt, alloc, &document.instance, &bytes[..end])?;
+        let accepted = expect_no_other_value(&rt, alloc, &network, &bytes[..end])?;
         assert!(rt; !accepted);
     }
-    let accepted = expect_no_other_value(&rt, alloc, &document.instance, bytes)?;
+    let accepted = expect_no_other_value(&rt, alloc, &network, bytes)?;
     assert!(rt; accepted);
     Ok(())
 }

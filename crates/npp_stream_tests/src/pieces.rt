@@ -1,9 +1,9 @@
 //! Each line is judged before more bytes are asked for, and each fault is answered where it is met.
 
 use crate::slow_shelf::SlowShelf;
-use crate::texts::{ONE_TOLL, ONE_TOLL_CERTIFICATE, said, with_lines};
+use crate::texts::said;
+use npp_fixtures::{TWO_ROADS, TWO_ROADS_CERTIFICATE, instance_of, with_lines};
 use npp_outside::MemoryShelf;
-use npp_reader::read;
 use npp_stream::{check_file, check_text};
 use std::alloc::Global;
 use std::process::Abort;
@@ -18,9 +18,9 @@ fn expect(
     answer: &str,
     calls: u64,
 ) -> Result<(), Fail> {
-    let document = read(alloc, ONE_TOLL.as_bytes())?;
+    let network = instance_of(alloc, TWO_ROADS)?;
     let mut shelf = SlowShelf::new(bytes, 1, good);
-    let found = check_file(alloc, &document.instance, &mut shelf, "c");
+    let found = check_file(alloc, &network, &mut shelf, "c");
     let text = said(alloc, found)?;
     assert_eq!(rt; text.as_str(), answer);
     assert_eq!(rt; shelf.calls(), calls);
@@ -30,12 +30,12 @@ fn expect(
 #[test]
 fn a_broken_line_comes_before_a_later_fault(rt: HostRuntime) -> Result<(), Fail> {
     let alloc = rt.alloc();
-    let text = with_lines(alloc, ONE_TOLL_CERTIFICATE, 1, 1, "npp-certificate 3\n")?;
+    let text = with_lines(alloc, TWO_ROADS_CERTIFICATE, 1, 1, "npp-certificate 3\n")?;
     expect(&rt, alloc, text.as_str().as_bytes(), 40, "line 1 Text", 18)?;
     expect(
         &rt,
         alloc,
-        ONE_TOLL_CERTIFICATE.as_bytes(),
+        TWO_ROADS_CERTIFICATE.as_bytes(),
         40,
         "Failed",
         40,
@@ -58,12 +58,12 @@ fn expect_failing(
     name: &str,
     answer: &str,
 ) -> Result<(), Fail> {
-    let document = read(alloc, ONE_TOLL.as_bytes())?;
-    let bytes = Vec::from_slice(alloc, ONE_TOLL_CERTIFICATE.as_bytes())?;
+    let network = instance_of(alloc, TWO_ROADS)?;
+    let bytes = Vec::from_slice(alloc, TWO_ROADS_CERTIFICATE.as_bytes())?;
     let mut files = Vec::new(alloc);
     files.push((String::from_str(alloc, "c")?, bytes))?;
     let mut shelf = MemoryShelf::new(files, Vec::from_slice(alloc, failing)?);
-    let found = check_file(alloc, &document.instance, &mut shelf, name);
+    let found = check_file(alloc, &network, &mut shelf, name);
     let text = said(alloc, found)?;
     assert_eq!(rt; text.as_str(), answer);
     Ok(())
@@ -81,14 +81,10 @@ fn each_call_may_fail(rt: HostRuntime) -> Result<(), Fail> {
 
 #[test]
 fn a_text_in_memory_is_judged(rt: HostRuntime) -> Result<(), Fail> {
-    let document = read(rt.alloc(), ONE_TOLL.as_bytes())?;
-    let found = check_text(
-        rt.alloc(),
-        &document.instance,
-        ONE_TOLL_CERTIFICATE.as_bytes(),
-    );
+    let network = instance_of(rt.alloc(), TWO_ROADS)?;
+    let found = check_text(rt.alloc(), &network, TWO_ROADS_CERTIFICATE.as_bytes());
     assert!(rt; found.is_ok());
-    let broken = check_text(rt.alloc(), &document.instance, b"npp-certificate 1");
+    let broken = check_text(rt.alloc(), &network, b"npp-certificate 1");
     assert!(rt; broken.is_err());
     Ok(())
 }

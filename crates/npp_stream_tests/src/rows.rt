@@ -1,10 +1,10 @@
 //! Certificates that are accepted, and changes of them, each taken byte by byte and at once.
 
 use crate::slow_shelf::SlowShelf;
-use crate::texts::{
-    ONE_TOLL, ONE_TOLL_CERTIFICATE, THREE_PAIRS, THREE_PAIRS_CERTIFICATE, said, with_lines,
+use crate::texts::said;
+use npp_fixtures::{
+    THREE_PAIRS, THREE_PAIRS_CERTIFICATE, TWO_ROADS, TWO_ROADS_CERTIFICATE, instance_of, with_lines,
 };
-use npp_reader::read;
 use npp_stream::check_file;
 use std::alloc::Global;
 use std::process::Abort;
@@ -19,9 +19,9 @@ fn expect_by(
     most: usize,
     answer: &str,
 ) -> Result<(), Fail> {
-    let document = read(alloc, instance.as_bytes())?;
+    let network = instance_of(alloc, instance)?;
     let mut shelf = SlowShelf::new(text.as_bytes(), most, u64::MAX);
-    let found = check_file(alloc, &document.instance, &mut shelf, "c");
+    let found = check_file(alloc, &network, &mut shelf, "c");
     let text = said(alloc, found)?;
     assert_eq!(rt; text.as_str(), answer);
     Ok(())
@@ -49,14 +49,20 @@ fn expect_change(
     lines: &str,
     answer: &str,
 ) -> Result<(), Fail> {
-    let text = with_lines(alloc, ONE_TOLL_CERTIFICATE, first, last, lines)?;
-    expect(rt, alloc, ONE_TOLL, text.as_str(), answer)
+    let text = with_lines(alloc, TWO_ROADS_CERTIFICATE, first, last, lines)?;
+    expect(rt, alloc, TWO_ROADS, text.as_str(), answer)
 }
 
 #[test]
 fn certificates_are_accepted(rt: HostRuntime) -> Result<(), Fail> {
     let alloc = rt.alloc();
-    expect(&rt, alloc, ONE_TOLL, ONE_TOLL_CERTIFICATE, "accepted 40 40")?;
+    expect(
+        &rt,
+        alloc,
+        TWO_ROADS,
+        TWO_ROADS_CERTIFICATE,
+        "accepted 40 40",
+    )?;
     expect(
         &rt,
         alloc,
@@ -104,7 +110,7 @@ fn changed_lines_are_refused(rt: HostRuntime) -> Result<(), Fail> {
 #[test]
 fn the_end_is_where_it_must_be(rt: HostRuntime) -> Result<(), Fail> {
     let alloc = rt.alloc();
-    expect(&rt, alloc, ONE_TOLL, "", "line 1 Order")?;
+    expect(&rt, alloc, TWO_ROADS, "", "line 1 Order")?;
     expect_change(&rt, alloc, 16, 16, "", "line 16 Order")?;
     expect_change(&rt, alloc, 16, 16, "e", "line 16 Text")?;
     expect_change(&rt, alloc, 16, 16, "end", "line 16 Text")?;
@@ -117,6 +123,6 @@ fn the_end_is_where_it_must_be(rt: HostRuntime) -> Result<(), Fail> {
 #[test]
 fn a_second_certificate_is_refused(rt: HostRuntime) -> Result<(), Fail> {
     let alloc = rt.alloc();
-    let text = format!(in alloc; "{ONE_TOLL_CERTIFICATE}{ONE_TOLL_CERTIFICATE}")?;
-    expect(&rt, alloc, ONE_TOLL, text.as_str(), "line 17 Order")
+    let text = format!(in alloc; "{TWO_ROADS_CERTIFICATE}{TWO_ROADS_CERTIFICATE}")?;
+    expect(&rt, alloc, TWO_ROADS, text.as_str(), "line 17 Order")
 }

@@ -3,7 +3,6 @@
 use npp_fixtures::{covers_of, instance_of};
 use npp_rows::caps;
 use std::alloc::Global;
-use std::process::Abort;
 use std::test::Fail;
 
 /// The one cap of three commodities that share a toll arc with this ceiling.
@@ -18,17 +17,14 @@ fn cap_within(alloc: Global, ceiling: &str) -> Result<String, Fail> {
     Ok(format!(in alloc; "{caps:?}")?)
 }
 
-/// Expects the one cap of three commodities that share a toll arc with this ceiling.
-fn expect_cap(rt: &impl Abort, alloc: Global, ceiling: &str, want: &str) -> Result<(), Fail> {
-    let cap = cap_within(alloc, ceiling)?;
-    assert_eq!(rt; cap.as_str(), want);
-    Ok(())
-}
+/// Ceilings with the caps.
+const CAPS: &[(&str, &str)] = &[("-", "[8]"), ("20", "[8]"), ("3", "[3]"), ("0", "[0]")];
 
 #[test]
 fn a_cap_is_the_ceiling_or_the_greatest_gap(rt: HostRuntime) -> Result<(), Fail> {
-    expect_cap(&rt, rt.alloc(), "-", "[8]")?;
-    expect_cap(&rt, rt.alloc(), "20", "[8]")?;
-    expect_cap(&rt, rt.alloc(), "3", "[3]")?;
-    expect_cap(&rt, rt.alloc(), "0", "[0]")
+    for (ceiling, want) in CAPS {
+        let cap = cap_within(rt.alloc(), ceiling)?;
+        assert_eq!(rt; cap.as_str(), *want);
+    }
+    Ok(())
 }

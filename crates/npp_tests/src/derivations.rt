@@ -1,7 +1,7 @@
 //! Rows derived from others, and why derivations are refused, on the three commodities.
 
 use npp_fixtures::{
-    Cuts, Named, THREE_PAIRS, are_cuts, covers_of, cuts_of, instance_of, multipliers_of,
+    Cuts, Named, Number, THREE_PAIRS, are_cuts, covers_of, cuts_of, instance_of, multipliers_of,
 };
 use npp_frac::{Exact, Frac32, Frac128, Op, Overflow, print_fraction};
 use npp_net::Listed;
@@ -113,9 +113,8 @@ fn expect_at_widths(
     wide: &str,
 ) -> Result<(), Fail> {
     let at_32 = derived::<Frac32>(alloc, earlier, plan)?;
-    assert_eq!(rt; at_32.as_str(), narrow);
     let at_128 = derived::<Frac128>(alloc, earlier, plan)?;
-    assert_eq!(rt; at_128.as_str(), wide);
+    assert_eq!(rt; [at_32.as_str(), at_128.as_str()], [narrow, wide]);
     Ok(())
 }
 
@@ -139,47 +138,52 @@ const THIRD: RowName = RowName::Follow(2, 1);
 /// The row that path 1 of the first commodity and path 0 of the third are not taken together.
 const APART: &str = "1 x(0,1) 1 x(2,0) <= 1";
 
+/// Rows that are to show that path 1 of the first commodity and path 0 of the third are not taken together.
+const CONFLICTS: &[(Named<'static>, &str)] = &[
+    (&[(FIRST, (1, 1)), (THIRD, (1, 1))], APART),
+    (&[(FIRST, (1, 3)), (THIRD, (1, 2))], APART),
+    (
+        &[(RowName::Follow(1, 0), (1, 1)), (THIRD, (0, 1))],
+        "BadName",
+    ),
+    (&[(THIRD, (1, 1)), (RowName::Cut(0), (1, 1))], "BadName"),
+    (&[(THIRD, (1, 1)), (FIRST, (-1, 1))], "BadOrder"),
+    (&[(FIRST, (1, 1)), (FIRST, (1, 1))], "BadOrder"),
+    (&[(FIRST, (1, 1)), (THIRD, (0, 1))], "NotPositive"),
+    (&[(FIRST, (-1, 1)), (THIRD, (1, 1))], "NotPositive"),
+    (&[(FIRST, (2, 1)), (THIRD, (1, 1))], "Column"),
+    (&[(FIRST, (1, 1)), (THIRD, (3, 1))], "NotBelowZero"),
+    (
+        &[(RowName::Cap(0), (1, 1)), (FIRST, (1, 1))],
+        "NotBelowZero",
+    ),
+];
+
 #[test]
 fn conflicts(rt: HostRuntime) -> Result<(), Fail> {
     let alloc = rt.alloc();
-    let rows: [(Named, &str); 11] = [
-        (&[(FIRST, (1, 1)), (THIRD, (1, 1))], APART),
-        (&[(FIRST, (1, 3)), (THIRD, (1, 2))], APART),
-        (
-            &[(RowName::Follow(1, 0), (1, 1)), (THIRD, (0, 1))],
-            "BadName",
-        ),
-        (&[(THIRD, (1, 1)), (RowName::Cut(0), (1, 1))], "BadName"),
-        (&[(THIRD, (1, 1)), (FIRST, (-1, 1))], "BadOrder"),
-        (&[(FIRST, (1, 1)), (FIRST, (1, 1))], "BadOrder"),
-        (&[(FIRST, (1, 1)), (THIRD, (0, 1))], "NotPositive"),
-        (&[(FIRST, (-1, 1)), (THIRD, (1, 1))], "NotPositive"),
-        (&[(FIRST, (2, 1)), (THIRD, (1, 1))], "Column"),
-        (&[(FIRST, (1, 1)), (THIRD, (3, 1))], "NotBelowZero"),
-        (
-            &[(RowName::Cap(0), (1, 1)), (FIRST, (1, 1))],
-            "NotBelowZero",
-        ),
-    ];
-    for (named, want) in rows {
+    for (named, want) in CONFLICTS {
         expect(&rt, alloc, &[], &Plan::Conflict(0, 1, 2, 0, named), want)?;
     }
     Ok(())
 }
 
-/// The commodities stand in order, and each has its path.
+/// Paths of which one is none, or whose commodities do not stand in order.
+const NO_CONFLICTS: &[(u32, u32, u32, u32)] = &[
+    (2, 0, 0, 1),
+    (0, 2, 2, 0),
+    (0, 1, 3, 0),
+    (0, 1, 0, 0),
+];
+
+/// A proof of a conflict of path 1 of the first commodity and path 0 of the third.
+const PROOF: Named<'static> = &[(FIRST, (1, 1)), (THIRD, (1, 1))];
+
 #[test]
 fn conflicts_of_no_paths(rt: HostRuntime) -> Result<(), Fail> {
-    let alloc = rt.alloc();
-    let proof: Named = &[(FIRST, (1, 1)), (THIRD, (1, 1))];
-    for (k, p, l, q) in [(2, 0, 0, 1), (0, 2, 2, 0), (0, 1, 3, 0), (0, 1, 0, 0)] {
-        expect(
-            &rt,
-            alloc,
-            &[],
-            &Plan::Conflict(k, p, l, q, proof),
-            "BadName",
-        )?;
+    for (k, p, l, q) in NO_CONFLICTS {
+        let plan = Plan::Conflict(*k, *p, *l, *q, PROOF);
+        expect(&rt, rt.alloc(), &[], &plan, "BadName")?;
     }
     Ok(())
 }
@@ -190,93 +194,94 @@ const BOTH_OF_SECOND: Cuts<'static> = &[
     (&[(0, 1, (1, 1)), (1, 1, (1, 1))], (1, 1)),
 ];
 
+/// Rows `k p l` from earlier ones.
+const PAIRS: &[(u32, u32, u32, &[u32], &str)] = &[
+    (0, 1, 1, &[0, 1], "1 x(0,1) 1 x(1,0) 1 x(1,1) <= 1"),
+    (0, 1, 0, &[0, 1], "BadName"),
+    (0, 2, 1, &[0, 1], "BadName"),
+    (0, 1, 3, &[0, 1], "BadName"),
+    (0, 1, 1, &[0, 2], "BadName"),
+    (0, 1, 1, &[1, 0], "BadOrder"),
+    (0, 1, 1, &[0], "BadOrder"),
+];
+
 #[test]
 fn pairs(rt: HostRuntime) -> Result<(), Fail> {
     let alloc = rt.alloc();
-    let rows: [(u32, u32, u32, &[u32], &str); 7] = [
-        (0, 1, 1, &[0, 1], "1 x(0,1) 1 x(1,0) 1 x(1,1) <= 1"),
-        (0, 1, 0, &[0, 1], "BadName"),
-        (0, 2, 1, &[0, 1], "BadName"),
-        (0, 1, 3, &[0, 1], "BadName"),
-        (0, 1, 1, &[0, 2], "BadName"),
-        (0, 1, 1, &[1, 0], "BadOrder"),
-        (0, 1, 1, &[0], "BadOrder"),
-    ];
-    for (k, p, l, cuts, want) in rows {
-        expect(&rt, alloc, BOTH_OF_SECOND, &Plan::Pair(k, p, l, cuts), want)?;
+    for (k, p, l, cuts, want) in PAIRS {
+        let plan = Plan::Pair(*k, *p, *l, cuts);
+        expect(&rt, alloc, BOTH_OF_SECOND, &plan, want)?;
     }
     Ok(())
 }
+
+/// Two earlier rows, and the row of path 1 of the first commodity with the second commodity.
+const OTHER_PAIRS: &[(Cuts<'static>, &str)] = &[
+    (
+        &[
+            (&[(0, 1, (1, 1)), (1, 0, (1, 1))], (1, 1)),
+            (&[(0, 1, (1, 1)), (1, 0, (1, 1))], (1, 1)),
+        ],
+        "1 x(0,1) 1 x(1,0) <= 1",
+    ),
+    (
+        &[
+            (&[(0, 1, (1, 1)), (1, 0, (1, 1))], (1, 1)),
+            (&[(0, 1, (1, 1)), (2, 0, (1, 1))], (1, 1)),
+        ],
+        "NotAConflict 1",
+    ),
+    (
+        &[
+            (&[(0, 0, (1, 1)), (1, 0, (1, 1))], (1, 1)),
+            (&[(0, 1, (1, 1)), (2, 0, (1, 1))], (1, 1)),
+        ],
+        "NotAConflict 0",
+    ),
+    (
+        &[
+            (&[(0, 1, (1, 1)), (1, 0, (1, 1))], (1, 1)),
+            (&[(0, 1, (1, 1)), (1, 1, (2, 1))], (1, 1)),
+        ],
+        "NotAConflict 1",
+    ),
+    (
+        &[
+            (&[(0, 1, (1, 1)), (1, 0, (1, 1))], (1, 1)),
+            (&[(0, 1, (1, 1)), (1, 1, (1, 1))], (2, 1)),
+        ],
+        "NotAConflict 1",
+    ),
+    (
+        &[
+            (&[(0, 1, (1, 1)), (1, 0, (1, 1))], (1, 1)),
+            (&[(0, 1, (1, 1)), (1, 0, (1, 1)), (1, 1, (1, 1))], (1, 1)),
+        ],
+        "NotAConflict 1",
+    ),
+];
 
 /// A choice that two rows name counts once, and only the very row of a conflict names a choice.
 #[test]
 fn pairs_after_other_rows(rt: HostRuntime) -> Result<(), Fail> {
     let alloc = rt.alloc();
-    let rows: [(Cuts, &str); 6] = [
-        (
-            &[
-                (&[(0, 1, (1, 1)), (1, 0, (1, 1))], (1, 1)),
-                (&[(0, 1, (1, 1)), (1, 0, (1, 1))], (1, 1)),
-            ],
-            "1 x(0,1) 1 x(1,0) <= 1",
-        ),
-        (
-            &[
-                (&[(0, 1, (1, 1)), (1, 0, (1, 1))], (1, 1)),
-                (&[(0, 1, (1, 1)), (2, 0, (1, 1))], (1, 1)),
-            ],
-            "NotAConflict 1",
-        ),
-        (
-            &[
-                (&[(0, 0, (1, 1)), (1, 0, (1, 1))], (1, 1)),
-                (&[(0, 1, (1, 1)), (2, 0, (1, 1))], (1, 1)),
-            ],
-            "NotAConflict 0",
-        ),
-        (
-            &[
-                (&[(0, 1, (1, 1)), (1, 0, (1, 1))], (1, 1)),
-                (&[(0, 1, (1, 1)), (1, 1, (2, 1))], (1, 1)),
-            ],
-            "NotAConflict 1",
-        ),
-        (
-            &[
-                (&[(0, 1, (1, 1)), (1, 0, (1, 1))], (1, 1)),
-                (&[(0, 1, (1, 1)), (1, 1, (1, 1))], (2, 1)),
-            ],
-            "NotAConflict 1",
-        ),
-        (
-            &[
-                (&[(0, 1, (1, 1)), (1, 0, (1, 1))], (1, 1)),
-                (&[(0, 1, (1, 1)), (1, 0, (1, 1)), (1, 1, (1, 1))], (1, 1)),
-            ],
-            "NotAConflict 1",
-        ),
-    ];
-    for (earlier, want) in rows {
+    for (earlier, want) in OTHER_PAIRS {
         expect(&rt, alloc, earlier, &Plan::Pair(0, 1, 1, &[0, 1]), want)?;
     }
     Ok(())
 }
 
 /// The one path may be of the higher commodity, and its term then stands last.
+const HIGHER: Cuts<'static> = &[
+    (&[(0, 0, (1, 1)), (1, 1, (1, 1))], (1, 1)),
+    (&[(0, 1, (1, 1)), (1, 1, (1, 1))], (1, 1)),
+];
+
 #[test]
 fn a_pair_of_a_higher_commodity(rt: HostRuntime) -> Result<(), Fail> {
-    let earlier: Cuts = &[
-        (&[(0, 0, (1, 1)), (1, 1, (1, 1))], (1, 1)),
-        (&[(0, 1, (1, 1)), (1, 1, (1, 1))], (1, 1)),
-    ];
+    let plan = Plan::Pair(1, 1, 0, &[0, 1]);
     let want = "1 x(0,0) 1 x(0,1) 1 x(1,1) <= 1";
-    expect(
-        &rt,
-        rt.alloc(),
-        earlier,
-        &Plan::Pair(1, 1, 0, &[0, 1]),
-        want,
-    )
+    expect(&rt, rt.alloc(), HIGHER, &plan, want)
 }
 
 /// Of three paths each two are not taken together.
@@ -286,58 +291,67 @@ const RING: Cuts<'static> = &[
     (&[(1, 0, (1, 1)), (2, 0, (1, 1))], (1, 1)),
 ];
 
+const HALF: Number = (1, 2);
+
+/// Rows that are rounded, after those of the ring.
+const ROUNDED: &[(Named<'static>, &str)] = &[
+    (&[], "<= 0"),
+    (&[(RowName::One(0), HALF)], "<= 0"),
+    (&[(RowName::OneLow(0), HALF)], "-1 x(0,0) -1 x(0,1) <= -1"),
+    (
+        &[
+            (RowName::Cut(0), HALF),
+            (RowName::Cut(1), HALF),
+            (RowName::Cut(2), HALF),
+        ],
+        "1 x(0,0) 1 x(1,0) 1 x(2,0) <= 1",
+    ),
+    (
+        &[(RowName::One(0), (2, 3)), (RowName::Cut(1), (2, 3))],
+        "1 x(0,0) <= 1",
+    ),
+];
+
 /// Numbers below 0 are rounded down too, and the halves of a ring give that only one of its paths is taken.
 #[test]
 fn rounded_rows(rt: HostRuntime) -> Result<(), Fail> {
     let alloc = rt.alloc();
-    let half = (1, 2);
-    let rows: [(Named, &str); 5] = [
-        (&[], "<= 0"),
-        (&[(RowName::One(0), half)], "<= 0"),
-        (&[(RowName::OneLow(0), half)], "-1 x(0,0) -1 x(0,1) <= -1"),
-        (
-            &[
-                (RowName::Cut(0), half),
-                (RowName::Cut(1), half),
-                (RowName::Cut(2), half),
-            ],
-            "1 x(0,0) 1 x(1,0) 1 x(2,0) <= 1",
-        ),
-        (
-            &[(RowName::One(0), (2, 3)), (RowName::Cut(1), (2, 3))],
-            "1 x(0,0) <= 1",
-        ),
-    ];
-    for (named, want) in rows {
+    for (named, want) in ROUNDED {
         expect(&rt, alloc, RING, &Plan::Round(named), want)?;
     }
     Ok(())
 }
 
+const ONE: Number = (1, 1);
+
+/// As great as 32 bits hold.
+const LARGE: Number = (2_147_483_647, 1);
+
+/// Rows that are not rounded.
+const REFUSED: &[(Named<'static>, &str)] = &[
+    (&[(RowName::Cap(0), ONE)], "TollColumn"),
+    (&[(RowName::Below(0, 0), ONE)], "TollColumn"),
+    (
+        &[(RowName::Use(0, 0), ONE), (RowName::One(0), LARGE)],
+        "TollColumn",
+    ),
+    (
+        &[(RowName::Cap(0), ONE), (RowName::Cut(0), (-1, 1))],
+        "BadName",
+    ),
+    (&[(RowName::Below(0, 3), ONE)], "BadName"),
+    (
+        &[(RowName::OneLow(0), ONE), (RowName::One(0), (0, 1))],
+        "BadOrder",
+    ),
+    (&[(RowName::One(0), (0, 1))], "NotPositive"),
+];
+
 /// The columns of tolls are judged before those of shares.
 #[test]
 fn rounded_rows_are_refused(rt: HostRuntime) -> Result<(), Fail> {
     let alloc = rt.alloc();
-    let (one, large) = ((1, 1), (2_147_483_647, 1));
-    let rows: [(Named, &str); 7] = [
-        (&[(RowName::Cap(0), one)], "TollColumn"),
-        (&[(RowName::Below(0, 0), one)], "TollColumn"),
-        (
-            &[(RowName::Use(0, 0), one), (RowName::One(0), large)],
-            "TollColumn",
-        ),
-        (
-            &[(RowName::Cap(0), one), (RowName::Cut(0), (-1, 1))],
-            "BadName",
-        ),
-        (&[(RowName::Below(0, 3), one)], "BadName"),
-        (
-            &[(RowName::OneLow(0), one), (RowName::One(0), (0, 1))],
-            "BadOrder",
-        ),
-        (&[(RowName::One(0), (0, 1))], "NotPositive"),
-    ];
-    for (named, want) in rows {
+    for (named, want) in REFUSED {
         expect(&rt, alloc, &[], &Plan::Round(named), want)?;
     }
     Ok(())
@@ -349,31 +363,45 @@ const LONG_TERM: Cuts<'static> = &[(&[(0, 0, (2_147_483_647, 1))], (1, 1))];
 /// A cut whose right side is.
 const LONG_SIDE: Cuts<'static> = &[(&[(0, 0, (1, 1))], (2_147_483_647, 1))];
 
+/// Sums that do not fit 32 bits: the earlier rows, the derivation, and its answers at 32 and at 128 bits.
+const SUMS: &[(Cuts<'static>, Plan<'static>, &str, &str)] = &[
+    (
+        &[],
+        Plan::Conflict(0, 1, 2, 0, &[(FIRST, LARGE), (THIRD, LARGE)]),
+        "-8 * 2147483647 does not fit",
+        APART,
+    ),
+    (
+        &[],
+        Plan::Conflict(
+            0,
+            1,
+            2,
+            0,
+            &[(RowName::Cap(0), LARGE), (FIRST, ONE), (THIRD, ONE)],
+        ),
+        "8 * 2147483647 does not fit",
+        "NotBelowZero",
+    ),
+    (
+        LONG_TERM,
+        Plan::Round(&[(RowName::One(0), ONE), (RowName::Cut(0), ONE)]),
+        "1 + 2147483647 does not fit",
+        "2147483648 x(0,0) 1 x(0,1) <= 2",
+    ),
+    (
+        LONG_SIDE,
+        Plan::Round(&[(RowName::One(0), ONE), (RowName::Cut(0), ONE)]),
+        "1 + 2147483647 does not fit",
+        "2 x(0,0) 1 x(0,1) <= 2147483648",
+    ),
+];
+
 /// Where a sum does not fit 32 bits, its first operation is told; 128 bits judge the sum.
 #[test]
 fn sums_that_do_not_fit(rt: HostRuntime) -> Result<(), Fail> {
-    let alloc = rt.alloc();
-    let (one, large) = ((1, 1), (2_147_483_647, 1));
-    let ends: Named = &[(FIRST, large), (THIRD, large)];
-    let plan = Plan::Conflict(0, 1, 2, 0, ends);
-    expect_at_widths(
-        &rt,
-        alloc,
-        &[],
-        &plan,
-        "-8 * 2147483647 does not fit",
-        APART,
-    )?;
-    let capped: Named = &[(RowName::Cap(0), large), (FIRST, one), (THIRD, one)];
-    let plan = Plan::Conflict(0, 1, 2, 0, capped);
-    let narrow = "8 * 2147483647 does not fit";
-    expect_at_widths(&rt, alloc, &[], &plan, narrow, "NotBelowZero")?;
-    let both: Named = &[(RowName::One(0), one), (RowName::Cut(0), one)];
-    let plan = Plan::Round(both);
-    let narrow = "1 + 2147483647 does not fit";
-    let wide = "2147483648 x(0,0) 1 x(0,1) <= 2";
-    expect_at_widths(&rt, alloc, LONG_TERM, &plan, narrow, wide)?;
-    let wide = "2 x(0,0) 1 x(0,1) <= 2147483648";
-    expect_at_widths(&rt, alloc, LONG_SIDE, &plan, narrow, wide)?;
+    for (earlier, plan, narrow, wide) in SUMS {
+        expect_at_widths(&rt, rt.alloc(), earlier, plan, narrow, wide)?;
+    }
     Ok(())
 }

@@ -39,6 +39,17 @@ fn expect_places(
     Ok(())
 }
 
+/// Names of no row of the relaxation with two cuts.
+const NO_ROWS: &[RowName] = &[
+    RowName::Cap(1),
+    RowName::Follow(0, 2),
+    RowName::Follow(3, 0),
+    RowName::Below(1, 0),
+    RowName::Use(0, 3),
+    RowName::OneLow(3),
+    RowName::Cut(2),
+];
+
 #[test]
 fn the_places_of_names(rt: HostRuntime) -> Result<(), Fail> {
     let alloc = rt.alloc();
@@ -51,23 +62,32 @@ fn the_places_of_names(rt: HostRuntime) -> Result<(), Fail> {
     let rows = index.rows(alloc, 2)?;
     assert_eq!(rt; rows.len(), 24);
     expect_places(&rt, &index, &rows, 2)?;
-    for row in [
-        RowName::Cap(1),
-        RowName::Follow(0, 2),
-        RowName::Follow(3, 0),
-        RowName::Below(1, 0),
-        RowName::Use(0, 3),
-        RowName::OneLow(3),
-        RowName::Cut(2),
-    ] {
-        assert!(rt; index.row_place(2, row).is_none(), "{row:?}");
+    for row in NO_ROWS {
+        assert_eq!(rt; index.row_place(2, *row), None, "{row:?}");
     }
-    assert_eq!(rt; table.choice_row_place(RowName::Follow(2, 1)), Some(6));
-    assert_eq!(rt; table.choice_row_place(RowName::One(0)), None);
-    assert!(rt; RowName::Below(1, 0).is_before(RowName::Below(0, 1)));
-    assert!(rt; !RowName::Cut(1).is_before(RowName::Cut(1)));
+    let places = [
+        table.choice_row_place(RowName::Follow(2, 1)),
+        table.choice_row_place(RowName::One(0)),
+    ];
+    assert_eq!(rt; places, [Some(6), None]);
+    let before = [
+        RowName::Below(1, 0).is_before(RowName::Below(0, 1)),
+        RowName::Cut(1).is_before(RowName::Cut(1)),
+    ];
+    assert_eq!(rt; before, [true, false]);
     Ok(())
 }
+
+/// Columns of the relaxation with their places.
+const COLUMNS: &[(ColumnName, Option<u32>)] = &[
+    (ColumnName::Toll(0), Some(0)),
+    (ColumnName::Share(0, 0), Some(1)),
+    (ColumnName::Share(2, 1), Some(6)),
+    (ColumnName::Paid(0, 2), Some(9)),
+    (ColumnName::Toll(1), None),
+    (ColumnName::Share(1, 2), None),
+    (ColumnName::Paid(1, 0), None),
+];
 
 #[test]
 fn the_places_of_columns(rt: HostRuntime) -> Result<(), Fail> {
@@ -79,24 +99,19 @@ fn the_places_of_columns(rt: HostRuntime) -> Result<(), Fail> {
     let table = PathTable::new(alloc, &net, covers)?;
     let index = RelaxationIndex::new(alloc, &table, &allowed)?;
     assert_eq!(rt; index.column_count(), 10);
-    for (column, want) in [
-        (ColumnName::Toll(0), Some(0)),
-        (ColumnName::Share(0, 0), Some(1)),
-        (ColumnName::Share(2, 1), Some(6)),
-        (ColumnName::Paid(0, 2), Some(9)),
-        (ColumnName::Toll(1), None),
-        (ColumnName::Share(1, 2), None),
-        (ColumnName::Paid(1, 0), None),
-    ] {
-        assert_eq!(rt; index.column_place(column), want, "{column:?}");
+    for (column, want) in COLUMNS {
+        assert_eq!(rt; index.column_place(*column), *want, "{column:?}");
     }
-    assert_eq!(rt; table.choice_column_place(ColumnName::Toll(0)), Some(0));
-    assert_eq!(rt; table.choice_column_place(ColumnName::Share(0, 0)), None);
+    let places = [
+        table.choice_column_place(ColumnName::Toll(0)),
+        table.choice_column_place(ColumnName::Share(0, 0)),
+    ];
+    assert_eq!(rt; places, [Some(0), None]);
     Ok(())
 }
 
 /// The six multipliers of a certificate: a dual answer of the relaxation over all paths.
-const SIX: [(RowName, Number); 6] = [
+const SIX: Named<'static> = &[
     (RowName::Below(0, 0), (1, 1)),
     (RowName::Below(0, 1), (19, 20)),
     (RowName::Use(0, 1), (1, 5)),
@@ -167,32 +182,37 @@ fn dual_text<N: Exact>(alloc: Global, before: Named, rows: Named) -> Result<Stri
 #[test]
 fn named_rows_are_a_dual_answer(rt: HostRuntime) -> Result<(), Fail> {
     let alloc = rt.alloc();
-    let narrow = dual_text::<Frac32>(alloc, &[], &SIX)?;
-    assert_eq!(rt; narrow.as_str(), "value 78/5");
-    let wide = dual_text::<Frac128>(alloc, &SIX, &SIX)?;
-    assert_eq!(rt; wide.as_str(), "value 78/5");
+    let narrow = dual_text::<Frac32>(alloc, &[], SIX)?;
+    let wide = dual_text::<Frac128>(alloc, SIX, SIX)?;
     let fewer = dual_text::<Frac64>(alloc, &[], &SIX[..5])?;
-    assert_eq!(rt; fewer.as_str(), "no dual answer");
+    let got = [narrow.as_str(), wide.as_str(), fewer.as_str()];
+    assert_eq!(rt; got, ["value 78/5", "value 78/5", "no dual answer"]);
     Ok(())
 }
 
+/// The only row of the first commodity's shares.
+const FIRST_ONE: RowName = RowName::One(0);
+
+/// The only cap.
+const CAP: RowName = RowName::Cap(0);
+
+/// Rows with their first faults.
+const FAULTS: &[(Named<'static>, &str)] = &[
+    (
+        &[(CAP, (1, 1)), (RowName::Cut(0), (-1, 1))],
+        "NoSuchRow at 1",
+    ),
+    (&[(FIRST_ONE, (1, 1)), (CAP, (-1, 1))], "NotAfter at 1"),
+    (&[(FIRST_ONE, (1, 1)), (FIRST_ONE, (1, 1))], "NotAfter at 1"),
+    (&[(CAP, (0, 1))], "NotPositive at 0"),
+    (&[(CAP, (1, 1)), (FIRST_ONE, (-1, 2))], "NotPositive at 1"),
+];
+
 #[test]
 fn the_first_fault_of_a_named_row(rt: HostRuntime) -> Result<(), Fail> {
-    let alloc = rt.alloc();
-    let (one, cap) = (RowName::One(0), RowName::Cap(0));
-    let rows: [(Named, &str); 5] = [
-        (
-            &[(cap, (1, 1)), (RowName::Cut(0), (-1, 1))],
-            "NoSuchRow at 1",
-        ),
-        (&[(one, (1, 1)), (cap, (-1, 1))], "NotAfter at 1"),
-        (&[(one, (1, 1)), (one, (1, 1))], "NotAfter at 1"),
-        (&[(cap, (0, 1))], "NotPositive at 0"),
-        (&[(cap, (1, 1)), (one, (-1, 2))], "NotPositive at 1"),
-    ];
-    for (named, want) in rows {
-        let text = dual_text::<Frac64>(alloc, &[], named)?;
-        assert_eq!(rt; text.as_str(), want);
+    for (named, want) in FAULTS {
+        let text = dual_text::<Frac64>(rt.alloc(), &[], named)?;
+        assert_eq!(rt; text.as_str(), *want);
     }
     Ok(())
 }
@@ -229,16 +249,32 @@ fn has_no_tolls<N: Exact>(alloc: Global, choice: &[u32], rows: Named) -> Result<
     Ok(take_for_choice(&mut sums, &table, choice, &rows) && sums.judge_farkas().is_ok())
 }
 
-/// The first commodity keeps off the toll arc from a toll of 8 on, and the third takes it up to a toll of 3.
+/// The first commodity keeps off the toll arc from a toll of 8 on.
+const OFF: RowName = RowName::Follow(0, 0);
+
+/// The third takes it up to a toll of 3.
+const ON: RowName = RowName::Follow(2, 1);
+
+/// Rows that prove that no tolls do both.
+const NO_TOLLS: Named<'static> = &[(OFF, (1, 1)), (ON, (1, 1))];
+
+/// Rows that prove nothing.
+const UNEQUAL: Named<'static> = &[(OFF, (1, 1)), (ON, (3, 1))];
+
+const OUT_OF_ORDER: Named<'static> = &[(ON, (1, 1)), (OFF, (1, 1))];
+
+const OF_NO_CHOICE: Named<'static> = &[(FIRST_ONE, (1, 1))];
+
 #[test]
 fn named_rows_are_a_farkas_answer(rt: HostRuntime) -> Result<(), Fail> {
     let alloc = rt.alloc();
-    let (first, third) = (RowName::Follow(0, 0), RowName::Follow(2, 1));
     let choice = [1, 0, 0];
-    let (one, three) = ((1, 1), (3, 1));
-    assert!(rt; has_no_tolls::<Frac32>(alloc, &choice, &[(first, one), (third, one)])?);
-    assert!(rt; !has_no_tolls::<Frac64>(alloc, &choice, &[(first, one), (third, three)])?);
-    assert!(rt; !has_no_tolls::<Frac64>(alloc, &choice, &[(third, one), (first, one)])?);
-    assert!(rt; !has_no_tolls::<Frac128>(alloc, &choice, &[(RowName::One(0), one)])?);
+    let got = [
+        has_no_tolls::<Frac32>(alloc, &choice, NO_TOLLS)?,
+        has_no_tolls::<Frac64>(alloc, &choice, UNEQUAL)?,
+        has_no_tolls::<Frac64>(alloc, &choice, OUT_OF_ORDER)?,
+        has_no_tolls::<Frac128>(alloc, &choice, OF_NO_CHOICE)?,
+    ];
+    assert_eq!(rt; got, [true, false, false, false]);
     Ok(())
 }

@@ -72,24 +72,25 @@ fn reply_to_whole<N: Exact>(alloc: Global, text: &str, tolls: &[u16]) -> Result<
     reply_text::<N>(alloc, text, whole_tolls(alloc, tolls)?)
 }
 
+/// Networks with whole tolls and the replies.
+const REPLIES: &[(&str, &[u16], &str)] = &[
+    (PARALLEL, &[8, 5], "revenue 5 paid 5 paths [1]"),
+    (PARALLEL, &[8, 6], "revenue 8 paid 8 paths [0]"),
+    (PARALLEL, &[9, 7], "revenue 0 paid 0 paths [2]"),
+    (PARALLEL, &[9, 6], "revenue 6 paid 6 paths [1]"),
+    (TWINS, &[8, 8], "revenue 8 paid 8 paths [0]"),
+    (CYCLE, &[8, 0], "revenue 40 paid 8 paths [0]"),
+    (THREE_PAIRS, &[6], "revenue 12 paid 6 6 0 paths [0, 0, 1]"),
+];
+
 /// The cheapest path is taken; of equal prices the one that pays more; and of equal tolls the first.
 #[test]
 fn replies_take_the_least_price_and_then_the_most_toll(rt: HostRuntime) -> Result<(), Fail> {
     let alloc = rt.alloc();
-    let rows: [(&str, &[u16], &str); 7] = [
-        (PARALLEL, &[8, 5], "revenue 5 paid 5 paths [1]"),
-        (PARALLEL, &[8, 6], "revenue 8 paid 8 paths [0]"),
-        (PARALLEL, &[9, 7], "revenue 0 paid 0 paths [2]"),
-        (PARALLEL, &[9, 6], "revenue 6 paid 6 paths [1]"),
-        (TWINS, &[8, 8], "revenue 8 paid 8 paths [0]"),
-        (CYCLE, &[8, 0], "revenue 40 paid 8 paths [0]"),
-        (THREE_PAIRS, &[6], "revenue 12 paid 6 6 0 paths [0, 0, 1]"),
-    ];
-    for (text, tolls, want) in rows {
+    for (text, tolls, want) in REPLIES {
         let narrow = reply_to_whole::<Frac32>(alloc, text, tolls)?;
-        assert_eq!(rt; narrow.as_str(), want);
         let wide = reply_to_whole::<Frac128>(alloc, text, tolls)?;
-        assert_eq!(rt; wide.as_str(), want);
+        assert_eq!(rt; [narrow.as_str(), wide.as_str()], [*want; 2]);
     }
     Ok(())
 }
@@ -105,11 +106,10 @@ fn reply_to_one(alloc: Global, text: &str, toll: &str) -> Result<String, Fail> {
 fn an_overflow_names_its_commodity(rt: HostRuntime) -> Result<(), Fail> {
     let alloc = rt.alloc();
     let second = reply_to_one(alloc, FARTHER, "170141183460469231731687303715884105725")?;
-    assert_eq!(rt; second.as_str(), "overflow 1");
     let first = reply_to_one(alloc, FARTHER, "170141183460469231731687303715884105727")?;
-    assert_eq!(rt; first.as_str(), "overflow 0");
     let paid = reply_to_whole::<Frac32>(alloc, MANY, &[2148])?;
-    assert_eq!(rt; paid.as_str(), "overflow 0");
+    let got = [second.as_str(), first.as_str(), paid.as_str()];
+    assert_eq!(rt; got, ["overflow 1", "overflow 0", "overflow 0"]);
     Ok(())
 }
 
@@ -138,6 +138,17 @@ fn best_text<N: Exact>(alloc: Global, text: &str, choice: &[u32]) -> Result<Stri
     }
 }
 
+/// The best tolls of a choice at a width as text.
+fn best_at(alloc: Global, width: u32, text: &str, choice: &[u32]) -> Result<String, Fail> {
+    match width {
+        32 => best_text::<Frac32>(alloc, text, choice),
+        64 => best_text::<Frac64>(alloc, text, choice),
+        _ => best_text::<Frac128>(alloc, text, choice),
+    }
+}
+
+const WIDTHS: &[u32] = &[32, 64, 128];
+
 /// Expects the best tolls of a choice at three widths.
 fn expect_best(
     rt: &impl Abort,
@@ -146,41 +157,41 @@ fn expect_best(
     choice: &[u32],
     want: &str,
 ) -> Result<(), Fail> {
-    let narrow = best_text::<Frac32>(alloc, text, choice)?;
-    assert_eq!(rt; narrow.as_str(), want);
-    let wide = best_text::<Frac64>(alloc, text, choice)?;
-    assert_eq!(rt; wide.as_str(), want);
-    let widest = best_text::<Frac128>(alloc, text, choice)?;
-    assert_eq!(rt; widest.as_str(), want);
+    for width in WIDTHS {
+        let got = best_at(alloc, *width, text, choice)?;
+        assert_eq!(rt; got.as_str(), want);
+    }
     Ok(())
 }
 
+/// Networks with choices and their best tolls.
+const BEST: &[(&str, &[u32], &str)] = &[
+    (
+        THREE_PAIRS,
+        &[0, 0, 0],
+        "value 15 tolls 3 revenue 15 paid 3 3 3 paths [0, 0, 0]",
+    ),
+    (THREE_PAIRS, &[1, 0, 0], "no tolls"),
+    (
+        PARALLEL,
+        &[0],
+        "value 8 tolls 8 6 revenue 8 paid 8 paths [0]",
+    ),
+    (
+        TRIANGLE,
+        &[0, 0, 0],
+        "value 3 tolls 1/2 1/2 1/2 revenue 3 paid 1 1 1 paths [0, 0, 0]",
+    ),
+    (
+        CYCLE,
+        &[0],
+        "value 40 tolls 8 0 revenue 40 paid 8 paths [0]",
+    ),
+];
+
 #[test]
 fn best_tolls_of_choices(rt: HostRuntime) -> Result<(), Fail> {
-    let rows: [(&str, &[u32], &str); 5] = [
-        (
-            THREE_PAIRS,
-            &[0, 0, 0],
-            "value 15 tolls 3 revenue 15 paid 3 3 3 paths [0, 0, 0]",
-        ),
-        (THREE_PAIRS, &[1, 0, 0], "no tolls"),
-        (
-            PARALLEL,
-            &[0],
-            "value 8 tolls 8 6 revenue 8 paid 8 paths [0]",
-        ),
-        (
-            TRIANGLE,
-            &[0, 0, 0],
-            "value 3 tolls 1/2 1/2 1/2 revenue 3 paid 1 1 1 paths [0, 0, 0]",
-        ),
-        (
-            CYCLE,
-            &[0],
-            "value 40 tolls 8 0 revenue 40 paid 8 paths [0]",
-        ),
-    ];
-    for (text, choice, want) in rows {
+    for (text, choice, want) in BEST {
         expect_best(&rt, rt.alloc(), text, choice, want)?;
     }
     Ok(())
@@ -194,24 +205,30 @@ fn two_roads(alloc: Global, ceiling: &str) -> Result<String, Fail> {
     Ok(text)
 }
 
+/// The most that two roads earn without a ceiling below 8.
+const MOST: &str = "value 40 tolls 8 revenue 40 paid 8 paths [0]";
+
+/// What the choice of the toll-free road gives there.
+const BESIDE: &str = "value 0 tolls 8 revenue 40 paid 8 paths [0]";
+
+/// Ceilings and paths of two roads with the best tolls.
+const CEILINGS: &[(&str, u32, &str)] = &[
+    ("-", 0, MOST),
+    ("20", 0, MOST),
+    ("3", 0, "value 15 tolls 3 revenue 15 paid 3 paths [0]"),
+    ("0", 0, "value 0 tolls 0 revenue 0 paid 0 paths [0]"),
+    ("-", 1, BESIDE),
+    ("3", 1, "no tolls"),
+    ("0", 1, "no tolls"),
+];
+
 /// Without a ceiling below 8 the toll rises to the difference of both roads, and up to it the toll-free road can be cheapest.
 #[test]
 fn best_tolls_within_ceilings(rt: HostRuntime) -> Result<(), Fail> {
     let alloc = rt.alloc();
-    let most = "value 40 tolls 8 revenue 40 paid 8 paths [0]";
-    let beside = "value 0 tolls 8 revenue 40 paid 8 paths [0]";
-    let rows: [(&str, u32, &str); 7] = [
-        ("-", 0, most),
-        ("20", 0, most),
-        ("3", 0, "value 15 tolls 3 revenue 15 paid 3 paths [0]"),
-        ("0", 0, "value 0 tolls 0 revenue 0 paid 0 paths [0]"),
-        ("-", 1, beside),
-        ("3", 1, "no tolls"),
-        ("0", 1, "no tolls"),
-    ];
-    for (ceiling, path, want) in rows {
+    for (ceiling, path, want) in CEILINGS {
         let text = two_roads(alloc, ceiling)?;
-        expect_best(&rt, alloc, text.as_str(), &[path], want)?;
+        expect_best(&rt, alloc, text.as_str(), &[*path], want)?;
     }
     Ok(())
 }
@@ -239,28 +256,37 @@ fn best_tolls_of_as_many_toll_arcs_as_there_may_be(rt: HostRuntime) -> Result<()
     expect_best(&rt, alloc, network.as_str(), &[0], want.as_str())
 }
 
-/// The first product of the run that does not fit 32 bits is in the goal row, at the right side. Where the run and its check
-/// fit and the reply does not, the mark is that of a sum.
+/// Widths, networks and choices with the marks, and with the best tolls where all fits. The first product of the run that does not
+/// fit 32 bits is in the goal row, at the right side. Where the run and its check fit and the reply does not, the mark is that of a
+/// sum.
+const MARKS: &[(u32, &str, &[u32], &str)] = &[
+    (
+        32,
+        MANY,
+        &[0],
+        "Overflow { pivot: 1, step: Pivot, row: 4, column: 5 }",
+    ),
+    (
+        64,
+        MANY,
+        &[0],
+        "value 1000000000000 tolls 1000000 revenue 1000000000000 paid 1000000 paths [0]",
+    ),
+    (32, MANY_AT_ONE_PRICE, &[1], "Sum"),
+    (
+        128,
+        MANY_AT_ONE_PRICE,
+        &[1],
+        "value 0 tolls 3000 revenue 3000000000 paid 3000 paths [0]",
+    ),
+];
+
 #[test]
 fn a_loud_program_has_its_mark(rt: HostRuntime) -> Result<(), Fail> {
-    let alloc = rt.alloc();
-    let narrow = best_text::<Frac32>(alloc, MANY, &[0])?;
-    assert_eq!(rt;
-        narrow.as_str(),
-        "Overflow { pivot: 1, step: Pivot, row: 4, column: 5 }"
-    );
-    let wide = best_text::<Frac64>(alloc, MANY, &[0])?;
-    assert_eq!(rt;
-        wide.as_str(),
-        "value 1000000000000 tolls 1000000 revenue 1000000000000 paid 1000000 paths [0]"
-    );
-    let reply = best_text::<Frac32>(alloc, MANY_AT_ONE_PRICE, &[1])?;
-    assert_eq!(rt; reply.as_str(), "Sum");
-    let fits = best_text::<Frac128>(alloc, MANY_AT_ONE_PRICE, &[1])?;
-    assert_eq!(rt;
-        fits.as_str(),
-        "value 0 tolls 3000 revenue 3000000000 paid 3000 paths [0]"
-    );
+    for (width, text, choice, want) in MARKS {
+        let got = best_at(rt.alloc(), *width, text, choice)?;
+        assert_eq!(rt; got.as_str(), *want);
+    }
     Ok(())
 }
 

@@ -104,13 +104,14 @@ const THREE_RELAXED: &str = "0:1 <= 8
 5:-1 6:-1 <= -1
 goal 0 0 0 0 0 0 0 1 1 3";
 
+/// Both paths of each commodity.
+const ALL_PATHS: &[&[u32]] = &[&[0, 1], &[0, 1], &[0, 1]];
+
 #[test]
 fn the_rows_of_a_relaxation(rt: HostRuntime) -> Result<(), Fail> {
-    let all: [&[u32]; 3] = [&[0, 1], &[0, 1], &[0, 1]];
-    let narrow = relaxation_text::<Frac32>(rt.alloc(), THREE_PAIRS, &all, &[])?;
-    assert_eq!(rt; narrow.as_str(), THREE_RELAXED);
-    let wide = relaxation_text::<Frac128>(rt.alloc(), THREE_PAIRS, &all, &[])?;
-    assert_eq!(rt; wide.as_str(), THREE_RELAXED);
+    let narrow = relaxation_text::<Frac32>(rt.alloc(), THREE_PAIRS, ALL_PATHS, &[])?;
+    let wide = relaxation_text::<Frac128>(rt.alloc(), THREE_PAIRS, ALL_PATHS, &[])?;
+    assert_eq!(rt; [narrow.as_str(), wide.as_str()], [THREE_RELAXED; 2]);
     Ok(())
 }
 
@@ -138,22 +139,23 @@ const SOME_RELAXED: &str = "0:1 <= 8
 2:2 4:-1/2 <= 3/2
 goal 0 0 0 0 0 1 1";
 
-/// The cut of that family.
+/// That family.
+const SOME_PATHS: &[&[u32]] = &[&[0, 1], &[0], &[1]];
+
+/// Its cut.
 const SOME_CUT: Cuts<'static> = &[(&[(0, 1, (2, 1)), (1, 1, (1, 1)), (2, 1, (-1, 2))], (3, 2))];
 
 /// The relaxation of that family with its cut as text.
 fn some_relaxed<N: Exact>(alloc: Global) -> Result<String, Fail> {
     let cuts = cuts_of::<N>(alloc, SOME_CUT).ok_or("no cuts")?;
-    let some: [&[u32]; 3] = [&[0, 1], &[0], &[1]];
-    relaxation_text(alloc, THREE_PAIRS, &some, &cuts)
+    relaxation_text(alloc, THREE_PAIRS, SOME_PATHS, &cuts)
 }
 
 #[test]
 fn the_rows_of_a_family_with_a_cut(rt: HostRuntime) -> Result<(), Fail> {
     let narrow = some_relaxed::<Frac32>(rt.alloc())?;
-    assert_eq!(rt; narrow.as_str(), SOME_RELAXED);
     let wide = some_relaxed::<Frac128>(rt.alloc())?;
-    assert_eq!(rt; wide.as_str(), SOME_RELAXED);
+    assert_eq!(rt; [narrow.as_str(), wide.as_str()], [SOME_RELAXED; 2]);
     Ok(())
 }
 
@@ -177,15 +179,16 @@ const FIRST_BESIDE: &str = "0:1 <= 8
 0:1 <= 3
 goal 4";
 
+/// Choices with their inverse programs.
+const INVERSES: &[(&[u32], &str)] = &[(&[0, 0, 0], ALL_BY_TOLL), (&[1, 0, 0], FIRST_BESIDE)];
+
 #[test]
 fn the_rows_of_inverse_programs(rt: HostRuntime) -> Result<(), Fail> {
     let alloc = rt.alloc();
-    let rows: [(&[u32], &str); 2] = [(&[0, 0, 0], ALL_BY_TOLL), (&[1, 0, 0], FIRST_BESIDE)];
-    for (choice, want) in rows {
+    for (choice, want) in INVERSES {
         let narrow = inverse_text::<Frac32>(alloc, THREE_PAIRS, choice)?;
-        assert_eq!(rt; narrow.as_str(), want);
         let wide = inverse_text::<Frac128>(alloc, THREE_PAIRS, choice)?;
-        assert_eq!(rt; wide.as_str(), want);
+        assert_eq!(rt; [narrow.as_str(), wide.as_str()], [*want; 2]);
     }
     Ok(())
 }
@@ -224,13 +227,19 @@ fn row_count(alloc: Global, count: u32, any_size: bool) -> Result<Option<usize>,
     }
 }
 
-/// With ten columns 100,000 rows are not too many, and one more is.
+/// Numbers of cuts, whether any size is taken, and the rows. With ten columns 100,000 rows are not too many, and one more is.
+const ROW_COUNTS: &[(u32, bool, Option<usize>)] = &[
+    (99_978, false, Some(100_000)),
+    (99_979, false, None),
+    (99_979, true, Some(100_001)),
+];
+
 #[test]
 fn a_relaxation_of_a_million_is_not_large(rt: HostRuntime) -> Result<(), Fail> {
-    let alloc = rt.alloc();
-    assert_eq!(rt; row_count(alloc, 99_978, false)?, Some(100_000));
-    assert_eq!(rt; row_count(alloc, 99_979, false)?, None);
-    assert_eq!(rt; row_count(alloc, 99_979, true)?, Some(100_001));
+    for (cuts, any_size, want) in ROW_COUNTS {
+        let got = row_count(rt.alloc(), *cuts, *any_size)?;
+        assert_eq!(rt; got, *want);
+    }
     Ok(())
 }
 
@@ -246,13 +255,20 @@ fn basic(alloc: Global, parts: &[&[u32]]) -> Result<u128, Fail> {
     Ok(basic_of(&net, covers, &allowed))
 }
 
-/// Without the toll arc for the third commodity 9 of the 23 are lost, and by its path beside it alone a commodity pays nothing.
+/// Families with their bounds. Without the toll arc for the third commodity 9 of the 23 are lost, and by its path beside it alone a
+/// commodity pays nothing.
+const BASIC_BOUNDS: &[(&[&[u32]], u128)] = &[
+    (ALL_PATHS, 23),
+    (&[&[0, 1], &[0, 1], &[1]], 14),
+    (&[&[1], &[1], &[1]], 0),
+];
+
 #[test]
 fn basic_bounds_of_families(rt: HostRuntime) -> Result<(), Fail> {
-    let alloc = rt.alloc();
-    assert_eq!(rt; basic(alloc, &[&[0, 1], &[0, 1], &[0, 1]])?, 23);
-    assert_eq!(rt; basic(alloc, &[&[0, 1], &[0, 1], &[1]])?, 14);
-    assert_eq!(rt; basic(alloc, &[&[1], &[1], &[1]])?, 0);
+    for (parts, want) in BASIC_BOUNDS {
+        let got = basic(rt.alloc(), parts)?;
+        assert_eq!(rt; got, *want);
+    }
     Ok(())
 }
 
