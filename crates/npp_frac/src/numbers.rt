@@ -144,7 +144,7 @@ fn is_word(a: i128) -> bool
 
 /// The product of two words, in one multiplication.
 #[inline(always)]
-fn product_of_words(a: i128, b: i128) -> i128
+pub fn product_of_words(a: i128, b: i128) -> i128
     requires left { nat_abs a ≤ 2 ^ 63 }
     requires right { nat_abs b ≤ 2 ^ 63 }
     ensures fits { FitsSigned w128 (a *ℤ b) }

@@ -3,6 +3,8 @@
 ghost use Rattle.std.specs.Prelude.{◌≡◌, ◌<◌, ◌≤◌, ◌^◌, ◌*◌, ◌/◌, pos, ◌+ℤ◌, ◌*ℤ◌, neg_ℤ, int_div, int_lt, cond, nat_abs, IfSome, SomeIff};
 ghost use Rattle.std.specs.Int.{int_div_euclid};
 
+use crate::numbers::product_of_words;
+
 /// The size of a number.
 #[inline(always)]
 pub fn size(a: i64) -> u64
@@ -75,18 +77,27 @@ pub fn quotient_down(a: i64, by: u64) -> i64
     a.div_euclid(by as i64)
 }
 
+/// The number, where its size is below the limit.
+#[inline(always)]
+fn below(value: i128, limit: u64) -> Option<i64>
+    requires { limit ≤ 2 ^ 63 }
+    ensures { SomeIff result (nat_abs value < limit) value }
+{
+    let limit = i128::from(limit);
+    if -limit < value && value < limit {
+        Some(value as i64)
+    } else {
+        None
+    }
+}
+
 /// The sum, where its size is below the limit.
 #[inline(always)]
 pub fn signed_sum(a: i64, b: i64, limit: u64) -> Option<i64>
     requires { limit ≤ 2 ^ 63 }
     ensures { SomeIff result (nat_abs (a +ℤ b) < limit) (a +ℤ b) }
 {
-    let exact = a.checked_add(b)?;
-    if size(exact) < limit {
-        Some(exact)
-    } else {
-        None
-    }
+    below(i128::from(a) + i128::from(b), limit)
 }
 
 /// The product with a number that is not negative, where its size is below the limit.
@@ -105,12 +116,7 @@ pub fn signed_product(a: i64, b: i64, limit: u64) -> Option<i64>
     requires { limit ≤ 2 ^ 63 }
     ensures { SomeIff result (nat_abs (a *ℤ b) < limit) (a *ℤ b) }
 {
-    let exact = a.checked_mul(b)?;
-    if size(exact) < limit {
-        Some(exact)
-    } else {
-        None
-    }
+    below(product_of_words(i128::from(a), i128::from(b)), limit)
 }
 
 /// The product of two positive numbers, where it is below the limit.
