@@ -82,7 +82,7 @@ fn is_open_by_needed(
     false
 }
 
-/// The arc at this place, where it is the first of several in a row to one head and is passed; else what was passed before.
+/// The arc at this place, where it is the first of three or more in a row to one head and is passed; else what was passed before.
 fn passed_after(
     labels: &[Label],
     table: &DominanceTable,
@@ -114,14 +114,17 @@ fn is_past(passed: Option<NeededArc>, way: NeededArc) -> bool
     }
 }
 
-/// Whether the arc at this place is the first of several in a row to one head.
+/// Whether the arc at this place is the first of three or more in a row to one head. With two the question costs what it spares.
 fn begins_several(ways: &[NeededArc], place: usize) -> bool
     requires { place < length ways.now }
     ensures { OnTrue result (place + 1 < length ways.now) }
 {
+    if ways.len() - place < 3 {
+        return false;
+    }
     let head = ways[place].head;
     let is_first = place == 0 || ways[place - 1].head != head;
-    is_first && place + 1 < ways.len() && ways[place + 1].head == head
+    is_first && ways[place + 1].head == head && ways[place + 2].head == head
 }
 
 /// Whether the label after this one by the arc is dominated even where the arc adds no toll. Then it is so by each arc to the
