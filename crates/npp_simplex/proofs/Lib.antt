@@ -15,6 +15,7 @@ pub mod Rows
 pub mod Starting
 pub mod Comparing
 pub mod Refining
+pub mod Passing
 pub mod Nonzero
 pub mod WordRows
 pub mod CommonForms

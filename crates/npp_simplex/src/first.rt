@@ -127,7 +127,7 @@ pub fn first_line<N: Exact>(
     requires extra { N.rational extra ≡ extra_entry_of (linear_program N.rational program.now) }
     ensures { IfOk result (λ line. line ≡ map (first_cell (linear_program N.rational program.now) i) (range_with_len 0 (shape.columns + shape.rows + 2))) }
 {
-    let mut cells = Vec::new(alloc);
+    let mut cells = Vec::with_capacity(alloc, shape.width())?;
     push_row(&mut cells, shape, program, i, extra)?;
     Line::of(alloc, cells)
 }
@@ -147,7 +147,7 @@ impl<N: Exact> Tableau<N> {
         ensures { IfOk result (λ tableau. tableau ≡ first_tableau (linear_program N.rational program.now)) }
     {
         let extra = extra_entry(phase_one);
-        let mut lines = Vec::new(alloc);
+        let mut lines = Vec::with_capacity(alloc, shape.height())?;
         for i in 0..shape.height() {
             let line = first_line(alloc, shape, program, i, extra)?;
             match lines.push(line) {

@@ -1,7 +1,7 @@
 //! A row of the tableau.
 
-ghost use Rattle.std.specs.Prelude.{◌≡◌, ◌≢◌, ℕ, ◌<◌, ◌≤◌, ◌^◌, ◌↔◌, IsTrue, length, take, map, is_some, IfSome, IfNone, IfOk};
-ghost use Rattle.npp_frac.specs.Rational.{zero_ℚ, is_less, ◌-ℚ◌, ◌*ℚ◌, ◌/ℚ◌};
+ghost use Rattle.std.specs.Prelude.{◌≡◌, ◌≢◌, ℕ, ◌<◌, ◌≤◌, ◌^◌, ◌↔◌, IsTrue, length, take, map, is_some, IfSome, IfOk};
+ghost use Rattle.npp_frac.specs.Rational.{zero_ℚ, is_less, ◌/ℚ◌};
 ghost use Rattle.npp_frac.specs.Fits.{limit_of, fits_div};
 ghost use Rattle.npp_lp.specs.Programs.{at};
 ghost use Rattle.npp_simplex.specs.Steps.{nonzero_columns as nonzero_columns_of};
@@ -99,6 +99,22 @@ impl<N: Exact> Line<N> {
         } else {
             is_zero(fractions[j])
         }
+    }
+
+    /// The first of some columns at which the row is not 0, or their end.
+    pub fn next_nonzero(&self, from: usize, end: usize) -> usize
+        requires order { from ≤ end }
+        requires end { end ≤ length self.now }
+        ensures from { from ≤ result }
+        ensures end { result ≤ end }
+        ensures zeros { (j : ℕ) → from ≤ j → j < result → at self.now j ≡ zero_ℚ }
+    {
+        for j in from..end {
+            if !self.is_zero(j) {
+                return j;
+            }
+        }
+        end
     }
 
     /// The quotient of two numbers of the row, where it fits.

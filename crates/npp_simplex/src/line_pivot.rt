@@ -1,6 +1,6 @@
 //! What a pivot does with a row of the tableau.
 
-ghost use Rattle.std.specs.Prelude.{◌≡◌, ◌≢◌, ℕ, ◌<◌, ◌≤◌, ◌^◌, length, IfNone, true};
+ghost use Rattle.std.specs.Prelude.{◌≡◌, ◌≢◌, ℕ, ◌<◌, ◌^◌, length, IfNone, true};
 ghost use Rattle.std.specs.Bool.{OnTrue, OnFalse};
 ghost use Rattle.npp_frac.specs.Rational.{zero_ℚ, ◌-ℚ◌, ◌*ℚ◌, ◌/ℚ◌};
 ghost use Rattle.npp_frac.specs.Fits.{limit_of, fits_div};
@@ -50,6 +50,7 @@ impl<N: Exact> Line<N> {
         ensures stop { result ≡ first_below (length self.old) (λ j. column_unless (fits_less_product (limit_of N.WIDTH) (at self.old j) (at self.old column) (at other.now j)) j) }
         ensures reduced { IfNone result ((j : ℕ) → j < length self.old → at self.new j ≡ at self.old j -ℚ at self.old column *ℚ at other.now j) }
     {
+        // From here on it is known that the words fit.
         let _ = &self.words;
         if self.is_zero(column) {
             return None;

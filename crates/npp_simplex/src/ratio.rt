@@ -1,10 +1,11 @@
 //! The ratio test: the lexicographic choice of the row that leaves the basis.
 
-ghost use Rattle.std.specs.Prelude.{◌≡◌, ℕ, ◌<◌, ◌≤◌, length, take, Some, None, is_some, IfSome, IfNone, IfOk, IfErr, map, slice_index};
+ghost use Rattle.std.specs.Prelude.{◌≡◌, ℕ, ◌<◌, ◌≤◌, length, take, Some, None, is_some, IfSome, IfNone, IfOk, IfErr, map, slice_index, All};
 ghost use Rattle.std.specs.List.{range_with_len};
+ghost use Rattle.npp_frac.specs.Rational.{zero_ℚ};
 ghost use Rattle.npp_frac.specs.Fits.{limit_of};
 ghost use Rattle.npp_lp.specs.Programs.{at};
-ghost use Rattle.npp_simplex.specs.Tableau.{width};
+ghost use Rattle.npp_simplex.specs.Tableau.{cell, width};
 ghost use Rattle.npp_simplex.specs.Ratio.{compared as compared_of, keys, least_rows};
 ghost use Rattle.npp_simplex.specs.Places.{quotient_fits, quotients_stop, remaining};
 ghost use Rattle.npp_simplex.specs.Meaning.{IsCandidate, AreCandidates, IsLeastOf, rows_up_to};
@@ -124,7 +125,29 @@ pub fn refine_at<N: Exact>(
     }
 }
 
+/// The first of some columns at which some row is not 0, or their end.
+pub fn next_key<N: Exact>(
+    tableau: &Tableau<N>,
+    from: usize,
+    end: usize,
+    candidates: &[u32],
+) -> usize
+    requires order { from ≤ end }
+    requires end { end ≤ width tableau.now }
+    requires rows { All (λ i. i < tableau.now.rows) candidates.now }
+    ensures from { from ≤ result }
+    ensures end { result ≤ end }
+    ensures zeros { (k j : ℕ) → k < length candidates.now → from ≤ j → j < result → cell tableau.now (slice_index candidates.now k) j ≡ zero_ℚ }
+{
+    let mut next = end;
+    for s in 0..candidates.len() {
+        next = tableau.next_nonzero(candidates[s] as usize, from, next);
+    }
+    next
+}
+
 /// The candidate that remains when they are compared at one slack after the other, or the first place that does not fit.
+/// At a column in which all of them are 0 they are not compared: all remain.
 pub fn refine_by_slacks<N: Exact>(
     tableau: &Tableau<N>,
     entering: EnteringColumn,
@@ -139,15 +162,19 @@ pub fn refine_by_slacks<N: Exact>(
     ensures candidate { IfOk result (λ row. IsCandidate tableau.now entering.column row) }
 {
     let shape = tableau.shape();
+    let end = shape.extra();
     let mut left = candidates.len();
-    for key in shape.columns..shape.extra() {
-        if left < 2 {
+    let mut from = shape.columns;
+    while 1 < left {
+        let key = next_key(tableau, from, end, &candidates[..left]);
+        if key == end {
             return Ok(candidates[0]);
         }
         match refine_at(tableau, entering, key, &mut candidates[..left], numbers) {
             Ok(fewer) => left = fewer,
             Err(place) => return Err(place),
         }
+        from = key + 1;
     }
     Ok(candidates[0])
 }

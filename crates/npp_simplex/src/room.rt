@@ -27,7 +27,7 @@ pub struct Room<N: Exact> {
 pub fn zeros<N: Exact>(alloc: Global, count: usize) -> Result<Vec<N>, Memory>
     ensures { IfOk result (λ list. length list.items ≡ count) }
 {
-    let mut list = Vec::new(alloc);
+    let mut list = Vec::with_capacity(alloc, count)?;
     for _i in 0..count {
         match list.push(zero()) {
             Ok(()) => {}
@@ -42,7 +42,7 @@ pub fn numbers_from(alloc: Global, first: usize, count: usize) -> Result<Vec<u32
     requires { first + count < 2 ^ 32 }
     ensures { IfOk result (λ list. list.items ≡ range_with_len first count) }
 {
-    let mut list = Vec::new(alloc);
+    let mut list = Vec::with_capacity(alloc, count)?;
     for i in 0..count {
         match list.push((first + i) as u32) {
             Ok(()) => {}

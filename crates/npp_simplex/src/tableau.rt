@@ -1,6 +1,6 @@
 //! The tableau: a table of exact numbers.
 
-ghost use Rattle.std.specs.Prelude.{◌≡◌, ◌≢◌, ℕ, ◌<◌, length, is_some, IfSome, IfNone};
+ghost use Rattle.std.specs.Prelude.{◌≡◌, ◌≢◌, ℕ, ◌<◌, ◌≤◌, length, is_some, IfSome, IfNone};
 ghost use Rattle.npp_frac.specs.Rational.{zero_ℚ, is_less, ◌-ℚ◌, ◌*ℚ◌, ◌/ℚ◌};
 ghost use Rattle.npp_frac.specs.Fits.{limit_of, fits_div};
 ghost use Rattle.npp_lp.specs.Programs.{at};
@@ -60,6 +60,19 @@ impl<N: Exact> Tableau<N> {
     {
         let line = &self.lines[row];
         line.is_positive(column)
+    }
+
+    /// The first of some columns at which a row is not 0, or their end.
+    pub fn next_nonzero(&self, row: usize, from: usize, end: usize) -> usize
+        requires row { row < height self.now }
+        requires order { from ≤ end }
+        requires end { end ≤ width self.now }
+        ensures from { from ≤ result }
+        ensures end { result ≤ end }
+        ensures zeros { (j : ℕ) → from ≤ j → j < result → cell self.now row j ≡ zero_ℚ }
+    {
+        let line = &self.lines[row];
+        line.next_nonzero(from, end)
     }
 
     /// The quotient of two numbers of a row, where it fits.

@@ -1,8 +1,8 @@
 //! Rows of whole numbers, each of them a word.
 
-ghost use Rattle.std.specs.Prelude.{◌≡◌, ℕ, ◌+◌, ◌-◌, int_div, ◌*◌, ◌%◌, ◌<◌, ◌≤◌, ◌^◌, IsTrue, IfOk, true, length, pos, ◌-ℤ◌, ◌*ℤ◌, neg_ℤ, nat_abs};
+ghost use Rattle.std.specs.Prelude.{◌≡◌, ℕ, ◌+◌, ◌-◌, int_div, ◌*◌, ◌%◌, ◌<◌, ◌≤◌, ◌^◌, IfOk, length, pos, ◌-ℤ◌, ◌*ℤ◌, neg_ℤ, nat_abs};
 ghost use Rattle.npp_frac.specs.Rational.{whole};
-ghost use Rattle.npp_simplex.specs.CommonForm.{number_in, over, AreWithin};
+ghost use Rattle.npp_simplex.specs.CommonForm.{number_in, AreWithin};
 ghost use Rattle.npp_simplex.specs.Steps.{nonzero_columns};
 
 use npp_frac::Memory;
@@ -111,7 +111,7 @@ pub fn subtract(numbers: &mut [i64], factor: i64, other: &[i64], columns: &[u32]
 pub fn zero_words(alloc: Global, count: usize) -> Result<Vec<i64>, Memory>
     ensures { IfOk result (λ list. length list.items ≡ count) }
 {
-    let mut list = Vec::new(alloc);
+    let mut list = Vec::with_capacity(alloc, count)?;
     for _i in 0..count {
         match list.push(0) {
             Ok(()) => {}
