@@ -41,6 +41,7 @@ pub mod PointLaws
 pub mod ExactLaws
 pub mod CapLaws
 pub mod WholeLaws
+pub mod UnionLaws
 pub mod SizeLaws
 pub mod ThreeCommodities
 pub mod Examples

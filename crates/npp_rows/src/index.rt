@@ -1,6 +1,6 @@
 //! The numbers of the rows and columns of a relaxation.
 
-ghost use Rattle.std.specs.Prelude.{◌≡◌, ◌<◌, ◌≤◌, ◌==◌, length, All, map, filter, IfOk};
+ghost use Rattle.std.specs.Prelude.{◌≡◌, ◌<◌, ◌≤◌, ◌==◌, ◌||◌, ℕ, length, All, map, filter, IfOk};
 ghost use Rattle.std.specs.List.{list_any, range_with_len, AllPairs};
 ghost use Rattle.std.specs.Int.{bit_at};
 ghost use Rattle.npp_cover.specs.PathValue.{path_value};
@@ -16,7 +16,7 @@ use crate::allowed::Allowed;
 use crate::starts::list_starts;
 use crate::table::PathTable;
 use npp_cover::UsefulPath;
-use npp_net::{Listed, Memory, TollId};
+use npp_net::{Listed, Memory, TollId, TollSet};
 use std::alloc::Global;
 use std::marker::Model;
 
@@ -162,25 +162,39 @@ fn tolls_on(
     requires part { All (λ p. p < length paths.now) part.now }
     ensures { IfOk result (λ v. v.items ≡ filter (λ a. list_any (λ p. bit_at (path_at (map path_value paths.now) p).tolls a == 1) part.now) (range_with_len 0 tolls)) }
 {
+    let set = tolls_of(paths, part);
     let mut on = Vec::new(alloc);
     for toll in 0..tolls {
-        if is_on(TollId(toll), paths, part) {
+        if set.has(TollId(toll)) {
             on.push(toll)?;
         }
     }
     Ok(on)
 }
 
-/// Whether some path of a part uses the toll.
-fn is_on(toll: TollId, paths: &[UsefulPath], part: &[u32]) -> bool
-    requires toll { toll.0 < 128 }
-    requires part { All (λ p. p < length paths.now) part.now }
-    ensures { result ≡ list_any (λ p. bit_at (path_at (map path_value paths.now) p).tolls toll.0 == 1) part.now }
+/// The tolls that some path of a part uses.
+fn tolls_of(paths: &[UsefulPath], part: &[u32]) -> TollSet
+    requires { All (λ p. p < length paths.now) part.now }
+    ensures { (a : ℕ) → a < 128
+        → (bit_at result a == 1) ≡ list_any (λ p. bit_at (path_at (map path_value paths.now) p).tolls a == 1) part.now }
 {
+    let mut set = TollSet::empty();
     for path in part {
-        if paths[*path as usize].tolls.has(toll) {
-            return true;
-        }
+        set = union(set, paths[*path as usize].tolls);
     }
-    false
+    set
+}
+
+/// The tolls of two sets. It takes the time of the tolls of the second, where it has one that the first lacks.
+fn union(set: TollSet, other: TollSet) -> TollSet
+    ensures { (a : ℕ) → a < 128 → (bit_at result a == 1) ≡ ((bit_at set a == 1) || (bit_at other a == 1)) }
+{
+    if other.is_within(set) {
+        return set;
+    }
+    let mut all = set;
+    for toll in other.tolls() {
+        all = all.with(toll);
+    }
+    all
 }
