@@ -1,5 +1,5 @@
 -- The lines of the tree at their stages.
-use Rattle.std.specs.Prelude.{◌≡◌, ℕ, suc, ◌+◌, true, false, not, List, [], ◌∷◌, ◌++◌, slice_set, Some, None, Result, Ok, Err, IfOk, IfErr, refl}
+use Rattle.std.specs.Prelude.{◌≡◌, ℕ, suc, ◌+◌, Bool, true, false, not, List, [], ◌∷◌, ◌++◌, slice_set, Some, None, Result, Ok, Err, IfOk, IfErr, refl}
 use Rattle.std.specs.Result.{IsErrAnd}
 use Rattle.std.proofs.Common.{ap, sym, ◌∙◌, subst}
 use Rattle.npp_frac.specs.Rational.{Rational}
@@ -13,6 +13,7 @@ use Rattle.npp_tree.specs.Family.{Family, Division, divides, rest_of, first_of, 
 use Rattle.npp_tree.specs.Tree.{bound_after}
 use Rattle.npp_check.specs.declared.block.Answer.{Answer}
 use Rattle.npp_check.specs.declared.block.Opening.{Opening}
+use Rattle.npp_check.specs.declared.block.Opening.TheVariants.{Answered}
 use Rattle.npp_check.specs.declared.refusal.Rule.{Rule}
 use Rattle.npp_check.specs.declared.refusal.Rule.TheVariants as rule
 use Rattle.npp_check.specs.Rules.{broken_if}
@@ -26,7 +27,7 @@ use Rattle.npp_check.specs.NodeLines.{Place, root_place, program_at, before, pro
 use Rattle.npp_check.specs.Stages.{Case, Stage, AtCuts, AtNodes, AtMultipliers, AtBranch, Behind, Known, Sum, nothing_yet, given, model_of, nodes_to_come, from_opening, from_multipliers, at_branch, from_branch}
 use Rattle.npp_check.specs.Judges.{Judges}
 use Rattle.npp_check.specs.StageValue.{stage_value, step_value}
-use Rattle.npp_check.specs.Steps.{Steps, Goes, Breaks, Leads, IsBlockUnderWay, IsStageOf}
+use Rattle.npp_check.specs.Steps.{Steps, Goes, Breaks, Leads, is_of_choice, IsBlockUnderWay, IsStageOf}
 use Rattle.npp_check.specs.Verdict.{PairValue, whole}
 use Rattle.npp_check.specs.Reads.{Reads, last_line, done, ◌>>=◌}
 use Rattle.npp_check.proofs.LineLemmas.{line_goes, line_breaks, last_goes, last_breaks}
@@ -47,6 +48,25 @@ module _ {N : Type 0} (value : N → Rational) (limit : ℕ) (c : Case) where
   pub wants : (old : Stage) (i : Item Rational) (r : Result (CodeStage N) Stop) (f : Stop) → IsErrAnd r (λ e. e ≡ f) → f ≡ stop.Memory → Steps limit c old i (step_value value c.net r)
   wants old i (Ok s) f is none = absurd is
   wants old i (Err e) f is none = subst (λ (g : Stop). Steps limit c old i (Err g)) (sym (is ∙ none)) tt
+
+-- an answer is of the program that the node has
+abbrev kind_of : Bool → Result Opening Rule → Bool
+kind_of full (Ok (Answered answer n)) = is_of_choice answer
+kind_of full other = full
+
+kind_is : {N : Type 0} (value : N → Rational) (full : Bool) (i : Item N) → kind_of full (opening_line full (item_of value i)) ≡ full
+kind_is value true (item.Dual n) = refl
+kind_is value false (item.Dual n) = refl
+kind_is value true (item.Farkas n) = refl
+kind_is value false (item.Farkas n) = refl
+kind_is value true (item.Inverse n) = refl
+kind_is value false (item.Inverse n) = refl
+kind_is value true (item.NoInverse n) = refl
+kind_is value false (item.NoInverse n) = refl
+kind_is value full other = refl
+
+pub answered_kind : {N : Type 0} (value : N → Rational) (full : Bool) (i : Item N) (answer : Answer) (n : ℕ) → opening_line full (item_of value i) ≡ Ok (Answered answer n) → is_of_choice answer ≡ full
+answered_kind value full i answer n judged = sym (ap (kind_of full) judged) ∙ kind_is value full i
 
 -- ---- lines that are not the ones that must stand there
 
@@ -133,7 +153,7 @@ module _ (limit : ℕ) (c : Case) where
           ∙ more_breaks (multiplier_line (program_at (given limit c k) p.parts)) after_all rest ys i rule judged number items
 
       -- the next multiplier is still to come
-      pub block_goes_on : (left : ℕ) (ys : List (Multiplier Rational)) → IsBlockUnderWay c k places p left ys
+      pub block_goes_on : (left : ℕ) (ys : List (Multiplier Rational)) → IsBlockUnderWay c k places p answer left ys
           → Leads limit c (from_multipliers limit c k places s p answer left ys) (Ok (AtMultipliers k places s p answer left ys))
       block_goes_on left ys is = (λ number items. refl, is)
 

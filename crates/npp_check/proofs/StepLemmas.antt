@@ -1,5 +1,5 @@
 -- A line at a stage goes on to the next stage, or breaks its rule.
-use Rattle.std.specs.Prelude.{◌≡◌, ℕ, suc, ◌+◌, ◌-◌, ◌<◌, List, [], ◌∷◌, ◌++◌, length, map, true, not, ◌==◌, Option, Some, None, Result, Ok, Err, refl}
+use Rattle.std.specs.Prelude.{◌≡◌, ℕ, suc, ◌+◌, ◌-◌, ◌<◌, List, [], ◌∷◌, ◌++◌, length, map, true, not, ◌==◌, Option, Some, None, Result, Ok, Err, IfOk, IfErr, refl}
 use Rattle.std.specs.Result.{IsErrAnd}
 use Rattle.std.specs.List.{range_with_len}
 use Rattle.std.proofs.Common.{arith, ap, sym, ◌∙◌, subst, eqb-true}
@@ -24,7 +24,7 @@ use Rattle.npp_check.specs.TollLines.{toll_line}
 use Rattle.npp_check.specs.PathLines.{path_line}
 use Rattle.npp_check.specs.Verdict.{PairValue, whole}
 use Rattle.npp_check.specs.Stages.{Case, Stage, AtLimits, AtTolls, AtPaths, from_limits, from_tolls, from_paths, from_covers}
-use Rattle.npp_check.specs.StageValue.{step_value}
+use Rattle.npp_check.specs.StageValue.{stage_value, step_value}
 use Rattle.npp_check.specs.Steps.{Steps, Stands, Breaks, IsPart}
 use Rattle.npp_check.proofs.RuleLemmas.{true_of, same_ok, unbroken}
 use Rattle.npp_check.specs.Reads.{Reads, at_line, read_behind, line, more, ◌>>=◌}
@@ -34,6 +34,13 @@ pub refused_so : {N : Type 0} (value : N → Rational) (limit : ℕ) (c : Case) 
     → IsErrAnd r (λ f. f ≡ stop.Broken broken) → Breaks limit c old i broken → Steps limit c old i (step_value value c.net r)
 refused_so value limit c old i broken (Ok x) is h = absurd is
 refused_so value limit c old i broken (Err f) is h = subst (λ (s : Stop). Steps limit c old i (Err s)) (sym is) h
+
+-- an answer that is a stage from which the lines are read on, or want of memory
+pub stage_or_memory : {N : Type 0} (value : N → Rational) (limit : ℕ) (c : Case) (old new : Stage) (i : Item Rational) (r : Result (CodeStage N) Stop)
+    → IfOk r (λ s. Stands limit c new (stage_value value c.net s)) → IfErr r (λ e. e ≡ stop.Memory)
+    → ((s : Stage) → Stands limit c new s → Steps limit c old i (Ok s)) → Steps limit c old i (step_value value c.net r)
+stage_or_memory value limit c old new i (Ok s) stands none goes = goes (stage_value value c.net s) stands
+stage_or_memory value limit c old new i (Err e) stands none goes = subst (λ (f : Stop). Steps limit c old i (Err f)) (sym none) tt
 
 -- ---- one line more of a kind
 

@@ -68,6 +68,10 @@ multipliers_value value d block =
 abbrev pub branch_value : {N : Type 0} → (N → Rational) → Descent N → Bound → Stage
 branch_value value d bound = AtBranch (known_value value d.known) d.places.later (sum_value d.sum) d.places.first.parts (bound_value bound)
 
+-- the last line, behind all nodes
+abbrev pub end_value : {N : Type 0} → (N → Rational) → Descent N → Stage
+end_value value d = AtNodes (known_value value d.known) [] (sum_value d.sum)
+
 abbrev pub stage_value : {N : Type 0} → (N → Rational) → Network → CodeStage N → Stage
 stage_value value net code.Header = AtHeader
 stage_value value net (code.Status two) = AtStatus two
@@ -81,14 +85,14 @@ stage_value value net (code.Limits head taken) =
 stage_value value net (code.Tolls head tolls) = AtTolls (head_value value head) (toll_count net.arcs - length tolls.items) (map value tolls.items)
 stage_value value net (code.Paths head tolls paths) =
     AtPaths (head_value value head) (map value tolls.items) (length net.commodities - length paths.items) (map (path_line_value value) paths.items)
-stage_value value net (code.Covers printed covers) = covers_value value net printed covers.items
-stage_value value net (code.Labels printed cover) = labels_value value net printed cover
-stage_value value net (code.Cuts known left) = cuts_value value known left
-stage_value value net (code.CutMultipliers known left block) = cut_value_at value known left block
-stage_value value net (code.Nodes descent) = nodes_value value descent
-stage_value value net (code.Multipliers descent block) = multipliers_value value descent block
-stage_value value net (code.Branch descent bound) = branch_value value descent bound
-stage_value value net (code.End known sum) = AtNodes (known_value value known) [] (sum_value sum)
+stage_value value net (code.Covers printed covers) = covers_value value net printed.value covers.items
+stage_value value net (code.Labels printed cover) = labels_value value net printed.value cover
+stage_value value net (code.Cuts known left) = cuts_value value known.value left
+stage_value value net (code.CutMultipliers known left block) = cut_value_at value known.value left block
+stage_value value net (code.Nodes descent) = nodes_value value descent.value
+stage_value value net (code.Multipliers descent block) = multipliers_value value descent.value block
+stage_value value net (code.Branch descent bound) = branch_value value descent.value bound
+stage_value value net (code.End descent) = end_value value descent.value
 stage_value value net (code.Behind pair) = Behind (pair_value pair)
 
 -- what a step of the code answers

@@ -1,5 +1,5 @@
 -- One line at a stage: which stage comes next, or which rule the line breaks, whatever follows.
-use Rattle.std.specs.Prelude.{◌≡◌, ℕ, ◌+◌, ◌<◌, ◌^◌, List, ◌∷◌, length, All, Result, Ok, Err}
+use Rattle.std.specs.Prelude.{◌≡◌, ℕ, ◌+◌, ◌<◌, ◌^◌, Bool, true, false, List, ◌∷◌, length, All, Result, Ok, Err}
 use Rattle.npp_frac.specs.Rational.{Rational}
 use Rattle.npp_net.specs.Network.{Network, toll_count}
 use Rattle.npp_cover.specs.Growing.{Growing}
@@ -9,10 +9,13 @@ use Rattle.npp_tree.specs.declared.item.Item.{Item}
 use Rattle.npp_check.specs.declared.refusal.Rule.{Rule}
 use Rattle.npp_check.specs.declared.refusal.CheckRefusal.{CheckRefusal}
 use Rattle.npp_check.specs.declared.refusal.CheckRefusal.TheVariants.{Broken, Memory}
+use Rattle.npp_check.specs.declared.block.Answer.{Answer}
+use Rattle.npp_check.specs.declared.block.Answer.TheVariants.{OfDual, OfFarkas, OfInverse, OfNoInverse}
 use Rattle.npp_check.specs.declared.stop.Stop.{Stop}
 use Rattle.npp_check.specs.declared.stop.Stop.TheVariants as stop
 use Rattle.npp_rows.specs.declared.names.Multiplier.{Multiplier}
 use Rattle.npp_rows.specs.Caps.{path_model}
+use Rattle.npp_rows.specs.Parts.{is_full}
 use Rattle.npp_rows.specs.NodeProgram.{node_program}
 use Rattle.npp_check.specs.NodeLines.{Place, child_place}
 use Rattle.npp_check.specs.Standing.{ArePrinted, AreCoversBut, IsDraftFor, AreCutsBut, IsTreeUnderWay, AreOfRows}
@@ -37,9 +40,17 @@ pub record AreLabelsBut (c : Case) (tolls : List Rational) (paths : List (PathLi
   pub covers : AreCoversBut c.net (left + 1) above
   pub growing : IsDraftFor c.net c.measures (length above) count draft
 
+-- whether an answer is of the inverse program of a full choice
+abbrev pub is_of_choice : Answer → Bool
+is_of_choice OfDual = false
+is_of_choice OfFarkas = false
+is_of_choice OfInverse = true
+is_of_choice OfNoInverse = true
+
 -- the evidence of a node is under way
-pub record IsBlockUnderWay (c : Case) (known : Known) (places : List Place) (place : Place) (left : ℕ) (ys : List (Multiplier Rational)) : Type 0 where
+pub record IsBlockUnderWay (c : Case) (known : Known) (places : List Place) (place : Place) (answer : Answer) (left : ℕ) (ys : List (Multiplier Rational)) : Type 0 where
   pub some : 0 < left
+  pub kind : is_of_choice answer ≡ is_full place.parts
   pub tree : IsTreeUnderWay c.net known.covers known.cuts (place ∷ places)
   pub multipliers : AreOfRows (node_program (path_model c.net known.covers) known.cuts place.parts) ys
 
@@ -53,7 +64,7 @@ IsStageOf c (AtLabels head tolls paths left above count draft) = AreLabelsBut c 
 IsStageOf c (AtCuts head covers left above) = AreCutsBut c.net covers left above
 IsStageOf c (AtCutMultipliers head covers left above kind lines ys) = (0 < lines) × AreCutsBut c.net covers (left + 1) above
 IsStageOf c (AtNodes known places sum) = IsTreeUnderWay c.net known.covers known.cuts places
-IsStageOf c (AtMultipliers known places sum place answer left ys) = IsBlockUnderWay c known places place left ys
+IsStageOf c (AtMultipliers known places sum place answer left ys) = IsBlockUnderWay c known places place answer left ys
 IsStageOf c (AtBranch known places sum parts bound) = IsTreeUnderWay c.net known.covers known.cuts (child_place bound parts ∷ places)
 IsStageOf c other = Unit {0}
 

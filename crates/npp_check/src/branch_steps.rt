@@ -1,6 +1,6 @@
 //! The line behind the evidence of a node, and the last line.
 
-ghost use Rattle.std.specs.Prelude.{◌≡◌, ◌<◌, ◌+◌, [], All, IfOk, IfErr};
+ghost use Rattle.std.specs.Prelude.{◌≡◌, ◌<◌, ◌+◌, All, IfOk, IfErr};
 ghost use Rattle.std.specs.List.{AllPairs};
 ghost use Rattle.npp_frac.specs.Fits.{limit_of};
 ghost use Rattle.npp_frac.specs.Wide.{value_of_wide};
@@ -11,12 +11,12 @@ ghost use Rattle.npp_tree.specs.Items.{item_of};
 ghost use Rattle.npp_check.specs.declared.stop.Stop.{Stop};
 ghost use Rattle.npp_check.specs.EndLine.{is_at, is_optimal, end_line};
 ghost use Rattle.npp_check.specs.Stages.{Case, AtNodes};
-ghost use Rattle.npp_check.specs.StageValue.{head_value, known_value, sum_value, branch_value, stage_value, step_value};
+ghost use Rattle.npp_check.specs.StageValue.{head_value, known_value, branch_value, end_value, stage_value, step_value};
 ghost use Rattle.npp_check.specs.Steps.{Steps, IsStageOf};
 
 use crate::descent::{Descent, Sum};
 use crate::division::divide;
-use crate::known::{Head, Known};
+use crate::known::Head;
 use crate::measured::Measured;
 use crate::node_steps::behind_node;
 use crate::refusal::Rule;
@@ -32,56 +32,59 @@ use std::alloc::Global;
 pub fn branch_step<N: Exact>(
     alloc: Global,
     measured: &Measured,
-    descent: Descent<N>,
+    descent: Box<Descent<N>>,
     bound: Bound,
     item: Item<N>,
 ) -> Result<Stage<N>, Stop>
-    requires stage { IsStageOf measured.now (branch_value N.rational descent bound) }
-    ensures { Steps (limit_of N.WIDTH) measured.now (branch_value N.rational descent bound) (item_of N.rational item) (step_value N.rational measured.now.net result) }
+    requires stage { IsStageOf measured.now (branch_value N.rational descent.value bound) }
+    ensures { Steps (limit_of N.WIDTH) measured.now (branch_value N.rational descent.value bound) (item_of N.rational item) (step_value N.rational measured.now.net result) }
 {
     match item {
-        Item::Leaf => leaf_step(descent, bound),
+        Item::Leaf => leaf_step(alloc, descent, bound),
         Item::Split { commodity, part } => split_step(alloc, descent, bound, commodity, part),
         _ => Err(Stop::Broken(Rule::Order)),
     }
 }
 
 /// The stage behind a first node that goes on no further.
-fn leaf_step<N: Exact>(descent: Descent<N>, bound: Bound) -> Result<Stage<N>, Stop>
-    ensures next { IfOk result (λ s. (net : Network) → stage_value N.rational net s ≡ AtNodes (known_value N.rational descent.known) descent.places.later
-        (record { opened = descent.sum.opened + 1; bound = greater (bound_value descent.sum.bound) (bound_value bound) })) }
+fn leaf_step<N: Exact>(
+    alloc: Global,
+    descent: Box<Descent<N>>,
+    bound: Bound,
+) -> Result<Stage<N>, Stop>
+    ensures next { IfOk result (λ s. (net : Network) → stage_value N.rational net s ≡ AtNodes (known_value N.rational descent.value.known) descent.value.places.later
+        (record { opened = descent.value.sum.opened + 1; bound = greater (bound_value descent.value.sum.bound) (bound_value bound) })) }
     ensures stop { IfErr result (λ e. e ≡ Stop.Memory) }
 {
-    let Descent { known, sum, places } = descent;
-    let opened = one_more(sum.opened)?;
-    let bound = sum.bound.greater(bound);
-    behind_node(known, Sum { opened, bound }, places)
+    let sum = Sum {
+        opened: one_more(descent.sum.opened)?,
+        bound: descent.sum.bound.greater(bound),
+    };
+    behind_node(alloc, descent, sum)
 }
 
 /// The stage behind a split of the first node.
 fn split_step<N: Exact>(
     alloc: Global,
-    descent: Descent<N>,
+    mut descent: Box<Descent<N>>,
     bound: Bound,
     commodity: u32,
     part: Listed<u32>,
 ) -> Result<Stage<N>, Stop>
-    requires { All (AllPairs (λ p q. p < q)) descent.places.first.parts }
-    ensures { (c : Case) → IsStageOf c (branch_value N.rational descent bound)
-        → Steps (limit_of N.WIDTH) c (branch_value N.rational descent bound) (Item.Split commodity part) (step_value N.rational c.net result) }
+    requires { All (AllPairs (λ p q. p < q)) descent.value.places.first.parts }
+    ensures { (c : Case) → IsStageOf c (branch_value N.rational descent.value bound)
+        → Steps (limit_of N.WIDTH) c (branch_value N.rational descent.value bound) (Item.Split commodity part) (step_value N.rational c.net result) }
 {
-    let Descent { known, sum, places } = descent;
-    let divided = divide(alloc, places.allowed(), commodity, part.entries())?;
+    let tree = &mut *descent;
+    let divided = divide(alloc, tree.places.allowed(), commodity, part.entries())?;
     let Some(rest) = divided else {
         return Err(Stop::Broken(Rule::Split));
     };
-    let opened = one_more(sum.opened)?;
-    let sum = Sum {
-        opened,
-        bound: sum.bound,
-    };
-    let places = places.split(alloc, commodity, part, Listed::of(rest), bound)?;
-    Ok(Stage::Nodes(Descent { known, sum, places }))
+    let opened = one_more(tree.sum.opened)?;
+    tree.sum.opened = opened;
+    tree.places
+        .split(alloc, commodity, part, Listed::of(rest), bound)?;
+    Ok(Stage::Nodes(descent))
 }
 
 /// A count with one more. Where it would pass 2^64 the answer is Memory.
@@ -99,14 +102,13 @@ fn one_more(count: u64) -> Result<u64, Stop>
 /// The last line.
 pub fn end_step<N: Exact>(
     measured: &Measured,
-    known: Known<N>,
-    sum: Sum,
+    descent: &Descent<N>,
     item: &Item<N>,
 ) -> Result<Stage<N>, Stop>
-    ensures { Steps (limit_of N.WIDTH) measured.now (AtNodes (known_value N.rational known) [] (sum_value sum)) (item_of N.rational item.now) (step_value N.rational measured.now.net result) }
+    ensures { Steps (limit_of N.WIDTH) measured.now (end_value N.rational descent.now) (item_of N.rational item.now) (step_value N.rational measured.now.net result) }
 {
-    let head = known.head;
-    end_line(head, sum, item)?;
+    let head = descent.known.head;
+    end_line(head, descent.sum, item)?;
     Ok(Stage::Behind(Pair {
         lower: head.lower.widen(),
         upper: head.upper.widen(),

@@ -23,7 +23,7 @@ pub fn undo(parts: &mut Vec<Listed<u32>>, mut changes: Vec<Change>)
 pub fn note(later: &mut Vec<Later>, change: Change) -> Result<(), Memory>
     ensures places { OnOk result ((family : Family) → later_places later.new.items family
         ≡ later_places later.old.items (slice_set family change.commodity change.part)) }
-    ensures range { (n : ℕ) → change.commodity < n → All (IsInRange n) later.old.items → OnOk result (All (IsInRange n) later.new.items) }
+    ensures range { (n : ℕ) → change.commodity < n → All (IsInRange n) later.old.items → All (IsInRange n) later.new.items }
 {
     let Some(next) = later.pop() else {
         return Ok(());

@@ -26,18 +26,18 @@ use std::alloc::Global;
 pub fn cover_step<N: Exact>(
     alloc: Global,
     measured: &Measured,
-    printed: Printed<N>,
+    printed: Box<Printed<N>>,
     covers: Vec<Cover>,
     item: &Item<N>,
 ) -> Result<Stage<N>, Stop>
-    requires stage { IsStageOf measured.now (covers_value N.rational measured.now.net printed covers.items) }
-    ensures { Steps (limit_of N.WIDTH) measured.now (covers_value N.rational measured.now.net printed covers.items)
+    requires stage { IsStageOf measured.now (covers_value N.rational measured.now.net printed.value covers.items) }
+    ensures { Steps (limit_of N.WIDTH) measured.now (covers_value N.rational measured.now.net printed.value covers.items)
         (item_of N.rational item.now) (step_value N.rational measured.now.net result) }
 {
     if covers.len() < measured.instance().commodities().len() {
         begin_cover(alloc, measured, printed, covers, item)
     } else {
-        cuts_step(alloc, measured, printed, covers, item)
+        cuts_step(alloc, measured, Box::into_inner(printed), covers, item)
     }
 }
 
@@ -45,13 +45,13 @@ pub fn cover_step<N: Exact>(
 fn begin_cover<N: Exact>(
     alloc: Global,
     measured: &Measured,
-    printed: Printed<N>,
+    printed: Box<Printed<N>>,
     covers: Vec<Cover>,
     item: &Item<N>,
 ) -> Result<Stage<N>, Stop>
-    requires stage { IsStageOf measured.now (covers_value N.rational measured.now.net printed covers.items) }
+    requires stage { IsStageOf measured.now (covers_value N.rational measured.now.net printed.value covers.items) }
     requires more { length covers.items < length measured.now.net.commodities }
-    ensures { Steps (limit_of N.WIDTH) measured.now (covers_value N.rational measured.now.net printed covers.items)
+    ensures { Steps (limit_of N.WIDTH) measured.now (covers_value N.rational measured.now.net printed.value covers.items)
         (item_of N.rational item.now) (step_value N.rational measured.now.net result) }
 {
     let _net = measured.instance();
@@ -81,11 +81,14 @@ fn cuts_step<N: Exact>(
         (item_of N.rational item.now) (step_value N.rational measured.now.net result) }
 {
     let left = cuts_line(measured.instance(), &printed, &covers, item)?;
-    let known = Known {
-        head: printed.head,
-        covers,
-        cuts: Vec::new(alloc),
-    };
+    let known = Box::new(
+        alloc,
+        Known {
+            head: printed.head,
+            covers,
+            cuts: Vec::new(alloc),
+        },
+    )?;
     Ok(Stage::Cuts { known, left })
 }
 
@@ -111,12 +114,12 @@ fn cover_line<N: Exact>(k: u32, item: &Item<N>) -> Result<u32, Rule>
 pub fn label_step<N: Exact>(
     alloc: Global,
     measured: &Measured,
-    printed: Printed<N>,
+    printed: Box<Printed<N>>,
     cover: OpenCover,
     item: Item<N>,
 ) -> Result<Stage<N>, Stop>
-    requires stage { IsStageOf measured.now (labels_value N.rational measured.now.net printed cover) }
-    ensures { Steps (limit_of N.WIDTH) measured.now (labels_value N.rational measured.now.net printed cover)
+    requires stage { IsStageOf measured.now (labels_value N.rational measured.now.net printed.value cover) }
+    ensures { Steps (limit_of N.WIDTH) measured.now (labels_value N.rational measured.now.net printed.value cover)
         (item_of N.rational item) (step_value N.rational measured.now.net result) }
 {
     if cover.left == 0 {
@@ -131,14 +134,14 @@ pub fn label_step<N: Exact>(
 /// The first label, which is the start.
 fn first_label<N: Exact>(
     measured: &Measured,
-    printed: Printed<N>,
+    printed: Box<Printed<N>>,
     cover: OpenCover,
     item: &Item<N>,
 ) -> Result<Stage<N>, Stop>
-    requires stage { IsStageOf measured.now (labels_value N.rational measured.now.net printed cover) }
+    requires stage { IsStageOf measured.now (labels_value N.rational measured.now.net printed.value cover) }
     requires some { 0 < cover.left }
     requires first { cover.taken ≡ 0 }
-    ensures { Steps (limit_of N.WIDTH) measured.now (labels_value N.rational measured.now.net printed cover)
+    ensures { Steps (limit_of N.WIDTH) measured.now (labels_value N.rational measured.now.net printed.value cover)
         (item_of N.rational item.now) (step_value N.rational measured.now.net result) }
 {
     match item {
@@ -150,14 +153,14 @@ fn first_label<N: Exact>(
 /// A later label, which goes on from one above it.
 fn later_label<N: Exact>(
     measured: &Measured,
-    printed: Printed<N>,
+    printed: Box<Printed<N>>,
     cover: OpenCover,
     item: &Item<N>,
 ) -> Result<Stage<N>, Stop>
-    requires stage { IsStageOf measured.now (labels_value N.rational measured.now.net printed cover) }
+    requires stage { IsStageOf measured.now (labels_value N.rational measured.now.net printed.value cover) }
     requires some { 0 < cover.left }
     requires later { 0 < cover.taken }
-    ensures { Steps (limit_of N.WIDTH) measured.now (labels_value N.rational measured.now.net printed cover)
+    ensures { Steps (limit_of N.WIDTH) measured.now (labels_value N.rational measured.now.net printed.value cover)
         (item_of N.rational item.now) (step_value N.rational measured.now.net result) }
 {
     match item {
@@ -175,13 +178,13 @@ fn later_label<N: Exact>(
 /// The start, which is the first label.
 fn start_step<N: Exact>(
     measured: &Measured,
-    printed: Printed<N>,
+    printed: Box<Printed<N>>,
     cover: OpenCover,
 ) -> Result<Stage<N>, Stop>
-    requires stage { IsStageOf measured.now (labels_value N.rational measured.now.net printed cover) }
+    requires stage { IsStageOf measured.now (labels_value N.rational measured.now.net printed.value cover) }
     requires some { 0 < cover.left }
     requires first { cover.taken ≡ 0 }
-    ensures { Steps (limit_of N.WIDTH) measured.now (labels_value N.rational measured.now.net printed cover)
+    ensures { Steps (limit_of N.WIDTH) measured.now (labels_value N.rational measured.now.net printed.value cover)
         Item.Start (step_value N.rational measured.now.net result) }
 {
     let OpenCover {
@@ -209,14 +212,14 @@ fn start_step<N: Exact>(
 /// A label that goes on from one above it.
 fn next_step<N: Exact>(
     measured: &Measured,
-    printed: Printed<N>,
+    printed: Box<Printed<N>>,
     cover: OpenCover,
     step: StepDraft,
 ) -> Result<Stage<N>, Stop>
-    requires stage { IsStageOf measured.now (labels_value N.rational measured.now.net printed cover) }
+    requires stage { IsStageOf measured.now (labels_value N.rational measured.now.net printed.value cover) }
     requires some { 0 < cover.left }
     requires later { 0 < cover.taken }
-    ensures { Steps (limit_of N.WIDTH) measured.now (labels_value N.rational measured.now.net printed cover)
+    ensures { Steps (limit_of N.WIDTH) measured.now (labels_value N.rational measured.now.net printed.value cover)
         (Item.Step step.parent step.arc) (step_value N.rational measured.now.net result) }
 {
     let OpenCover {
@@ -245,13 +248,13 @@ fn next_step<N: Exact>(
 fn free_step<N: Exact>(
     alloc: Global,
     measured: &Measured,
-    printed: Printed<N>,
+    printed: Box<Printed<N>>,
     cover: OpenCover,
     item: Item<N>,
 ) -> Result<Stage<N>, Stop>
-    requires stage { IsStageOf measured.now (labels_value N.rational measured.now.net printed cover) }
+    requires stage { IsStageOf measured.now (labels_value N.rational measured.now.net printed.value cover) }
     requires all { cover.left ≡ 0 }
-    ensures { Steps (limit_of N.WIDTH) measured.now (labels_value N.rational measured.now.net printed cover)
+    ensures { Steps (limit_of N.WIDTH) measured.now (labels_value N.rational measured.now.net printed.value cover)
         (item_of N.rational item) (step_value N.rational measured.now.net result) }
 {
     let Item::Free { arcs } = item else {

@@ -32,15 +32,15 @@ use std::alloc::Global;
 pub fn cut_step<N: Exact>(
     alloc: Global,
     measured: &Measured,
-    known: Known<N>,
+    known: Box<Known<N>>,
     left: u32,
     item: Item<N>,
 ) -> Result<Stage<N>, Stop>
-    requires stage { IsStageOf measured.now (cuts_value N.rational known left) }
-    ensures { Steps (limit_of N.WIDTH) measured.now (cuts_value N.rational known left) (item_of N.rational item) (step_value N.rational measured.now.net result) }
+    requires stage { IsStageOf measured.now (cuts_value N.rational known.value left) }
+    ensures { Steps (limit_of N.WIDTH) measured.now (cuts_value N.rational known.value left) (item_of N.rational item) (step_value N.rational measured.now.net result) }
 {
     if left == 0 {
-        tree_step(alloc, measured, known, &item)
+        tree_step(alloc, measured, Box::into_inner(known), &item)
     } else {
         begin_step(alloc, measured, known, left, item)
     }
@@ -50,13 +50,13 @@ pub fn cut_step<N: Exact>(
 fn begin_step<N: Exact>(
     alloc: Global,
     measured: &Measured,
-    known: Known<N>,
+    known: Box<Known<N>>,
     left: u32,
     item: Item<N>,
 ) -> Result<Stage<N>, Stop>
-    requires stage { IsStageOf measured.now (cuts_value N.rational known left) }
+    requires stage { IsStageOf measured.now (cuts_value N.rational known.value left) }
     requires some { 0 < left }
-    ensures { Steps (limit_of N.WIDTH) measured.now (cuts_value N.rational known left) (item_of N.rational item) (step_value N.rational measured.now.net result) }
+    ensures { Steps (limit_of N.WIDTH) measured.now (cuts_value N.rational known.value left) (item_of N.rational item) (step_value N.rational measured.now.net result) }
 {
     match item {
         Item::Conflict { k, p, l, q, lines } => {
@@ -104,12 +104,12 @@ fn new_block<N: Exact>(alloc: Global, kind: CutKind, lines: u32) -> CutBlock<N>
 fn begin_cut<N: Exact>(
     alloc: Global,
     measured: &Measured,
-    known: Known<N>,
+    known: Box<Known<N>>,
     left: u32,
     block: CutBlock<N>,
 ) -> Result<Stage<N>, Stop>
-    requires { AreCutsBut measured.now.net known.covers.items (left + 1) (map (cut_value N.rational) known.cuts.items) }
-    ensures { Leads (limit_of N.WIDTH) measured.now (from_stage (limit_of N.WIDTH) measured.now (cut_value_at N.rational known left block)) (step_value N.rational measured.now.net result) }
+    requires { AreCutsBut measured.now.net known.value.covers.items (left + 1) (map (cut_value N.rational) known.value.cuts.items) }
+    ensures { Leads (limit_of N.WIDTH) measured.now (from_stage (limit_of N.WIDTH) measured.now (cut_value_at N.rational known.value left block)) (step_value N.rational measured.now.net result) }
 {
     if block.lines > 0 {
         return Ok(Stage::CutMultipliers { known, left, block });
@@ -122,13 +122,13 @@ fn begin_cut<N: Exact>(
 pub fn cut_multiplier_step<N: Exact>(
     alloc: Global,
     measured: &Measured,
-    known: Known<N>,
+    known: Box<Known<N>>,
     left: u32,
     mut block: CutBlock<N>,
     item: &Item<N>,
 ) -> Result<Stage<N>, Stop>
-    requires stage { IsStageOf measured.now (cut_value_at N.rational known left block) }
-    ensures { Steps (limit_of N.WIDTH) measured.now (cut_value_at N.rational known left block) (item_of N.rational item.now) (step_value N.rational measured.now.net result) }
+    requires stage { IsStageOf measured.now (cut_value_at N.rational known.value left block) }
+    ensures { Steps (limit_of N.WIDTH) measured.now (cut_value_at N.rational known.value left block) (item_of N.rational item.now) (step_value N.rational measured.now.net result) }
 {
     let Item::Mult(multiplier) = item else {
         return Err(Stop::Broken(Rule::Order));
@@ -142,14 +142,14 @@ pub fn cut_multiplier_step<N: Exact>(
 fn end_cut<N: Exact>(
     alloc: Global,
     measured: &Measured,
-    mut known: Known<N>,
+    mut known: Box<Known<N>>,
     left: u32,
     cut: Derivation<N>,
 ) -> Result<Stage<N>, Stop>
-    requires { AreCutsBut measured.now.net known.covers.items (left + 1) (map (cut_value N.rational) known.cuts.items) }
+    requires { AreCutsBut measured.now.net known.value.covers.items (left + 1) (map (cut_value N.rational) known.value.cuts.items) }
     ensures { Leads (limit_of N.WIDTH) measured.now
-        (from_cut_multipliers (limit_of N.WIDTH) measured.now (head_value N.rational known.head) known.covers.items left
-        (map (cut_value N.rational) known.cuts.items) (λ y. derivation_value N.rational cut) 0 [])
+        (from_cut_multipliers (limit_of N.WIDTH) measured.now (head_value N.rational known.value.head) known.value.covers.items left
+        (map (cut_value N.rational) known.value.cuts.items) (λ y. derivation_value N.rational cut) 0 [])
         (step_value N.rational measured.now.net result) }
 {
     let row = derived_row(alloc, measured.instance(), &known, &cut)?;

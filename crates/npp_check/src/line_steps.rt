@@ -1,10 +1,11 @@
 //! The stages of the tolls and walks: one line at each.
 
-ghost use Rattle.std.specs.Prelude.{◌≡◌, ◌<◌, ◌≤◌, ◌-◌, ◌^◌, length, map, [], All};
+ghost use Rattle.std.specs.Prelude.{◌≡◌, ◌<◌, ◌≤◌, ◌-◌, ◌^◌, length, map, [], All, IfOk, IfErr};
 ghost use Rattle.npp_frac.specs.Fits.{limit_of};
 ghost use Rattle.npp_net.specs.Network.{toll_count};
 ghost use Rattle.npp_tree.specs.Items.{item_of, HasShortLists};
 ghost use Rattle.npp_tree.specs.Outcome.{path_line_value};
+ghost use Rattle.npp_check.specs.declared.stop.Stop.{Stop};
 ghost use Rattle.npp_check.specs.Stages.{AtTolls, AtPaths};
 ghost use Rattle.npp_check.specs.StageValue.{head_value, stage_value, step_value};
 ghost use Rattle.npp_check.specs.Steps.{Steps, Stands, IsStageOf, ArePathsBut};
@@ -80,7 +81,7 @@ pub fn path_step<N: Exact>(
     let instance = measured.instance();
     let path = path_line(instance, &tolls, paths.len() as u32, item)?;
     paths.push(path)?;
-    Ok(paths_stage(alloc, measured, head, tolls, paths))
+    paths_stage(alloc, measured, head, tolls, paths)
 }
 
 /// The stage behind these walks: that of the covers where they are all.
@@ -90,20 +91,21 @@ fn paths_stage<N: Exact>(
     head: Head<N>,
     tolls: Vec<N>,
     paths: Vec<PathLine<N>>,
-) -> Stage<N>
+) -> Result<Stage<N>, Stop>
     requires paths { length paths.items ≤ length measured.now.net.commodities }
     requires tolls { length tolls.items ≡ toll_count measured.now.net.arcs }
     requires costs { All (λ p. p.cost < 2 ^ 63) (map (path_line_value N.rational) paths.items) }
-    ensures { Stands (limit_of N.WIDTH) measured.now
+    ensures stage { IfOk result (λ s. Stands (limit_of N.WIDTH) measured.now
         (AtPaths (head_value N.rational head) (map N.rational tolls.items) (length measured.now.net.commodities - length paths.items) (map (path_line_value N.rational) paths.items))
-        (stage_value N.rational measured.now.net result) }
+        (stage_value N.rational measured.now.net s)) }
+    ensures stop { IfErr result (λ e. e ≡ Stop.Memory) }
 {
     if paths.len() < measured.instance().commodities().len() {
-        Stage::Paths { head, tolls, paths }
-    } else {
-        Stage::Covers {
-            printed: Printed { head, tolls, paths },
-            covers: Vec::new(alloc),
-        }
+        return Ok(Stage::Paths { head, tolls, paths });
     }
+    let printed = Box::new(alloc, Printed { head, tolls, paths })?;
+    Ok(Stage::Covers {
+        printed,
+        covers: Vec::new(alloc),
+    })
 }

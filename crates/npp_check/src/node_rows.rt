@@ -8,7 +8,7 @@ ghost use Rattle.npp_cover.specs.Replaces.{path_at};
 ghost use Rattle.npp_rows.specs.Caps.{path_model};
 ghost use Rattle.npp_rows.specs.Lowering.{AreClosedCovers};
 ghost use Rattle.npp_rows.specs.Meaning.{multiplier_value};
-ghost use Rattle.npp_rows.specs.Parts.{IsAllowed};
+ghost use Rattle.npp_rows.specs.Parts.{IsAllowed, is_full};
 ghost use Rattle.npp_rows.specs.RowOrder.{has_row};
 ghost use Rattle.npp_rows.specs.Rows.{IsPaidOn, IsRow, IsChoiceRow};
 ghost use Rattle.npp_rows.specs.PathModel.{no_cover};
@@ -20,7 +20,6 @@ ghost use Rattle.npp_check.specs.Rules.{judged_as};
 
 use crate::descent::Descent;
 use crate::measured::Measured;
-use crate::openings::is_full;
 use crate::refusal::Rule;
 use npp_cover::{Cover, UsefulPath};
 use npp_frac::{Exact, is_positive};
@@ -28,14 +27,17 @@ use npp_net::{Instance, TollId};
 use npp_rows::{Allowed, Multiplier, RowName};
 use npp_tree::Item;
 
-/// A multiplier above 0 of a row of the first node's program, behind those above it.
+/// A multiplier above 0 of a row of the first node's program, behind those above it. `full` says whether the node is
+/// a full choice.
 pub fn multiplier_line<N: Exact>(
     measured: &Measured,
     descent: &Descent<N>,
+    full: bool,
     above: &[Multiplier<N>],
     item: &Item<N>,
 ) -> Result<Multiplier<N>, Rule>
-    requires { IsDescent N.rational measured.now.net descent.now }
+    requires tree { IsDescent N.rational measured.now.net descent.now }
+    requires full { full ≡ is_full descent.now.places.first.parts }
     ensures { judged_as (multiplier_value N.rational) result ≡ multiplier_line (first_program N.rational measured.now.net descent.now)
         (map (multiplier_value N.rational) above.now) (item_of N.rational item.now) }
 {
@@ -43,7 +45,7 @@ pub fn multiplier_line<N: Exact>(
         return Err(Rule::Order);
     };
     let row = multiplier.row;
-    if !has_row(measured, descent, row) {
+    if !has_row(measured, descent, full, row) {
         return Err(Rule::Evidence);
     }
     if !is_behind(above, row) {
@@ -55,17 +57,18 @@ pub fn multiplier_line<N: Exact>(
     Ok(*multiplier)
 }
 
-/// Whether the first node's program has the row.
-fn has_row<N: Exact>(measured: &Measured, descent: &Descent<N>, row: RowName) -> bool
-    requires { IsDescent N.rational measured.now.net descent.now }
+/// Whether the first node's program has the row. `full` says whether the node is a full choice.
+fn has_row<N: Exact>(measured: &Measured, descent: &Descent<N>, full: bool, row: RowName) -> bool
+    requires tree { IsDescent N.rational measured.now.net descent.now }
+    requires full { full ≡ is_full descent.now.places.first.parts }
     ensures { result ≡ has_row (first_program N.rational measured.now.net descent.now).rows row }
 {
     let instance = measured.instance();
     let known = &descent.known;
-    let allowed = descent.places.allowed();
-    if is_full(allowed) {
+    if full {
         is_choice_row(instance, &known.covers, row)
     } else {
+        let allowed = descent.places.allowed();
         let cuts = known.cuts.len() as u32;
         is_row(instance, &known.covers, allowed, cuts, row)
     }

@@ -4,6 +4,7 @@ ghost use Rattle.std.specs.Prelude.{◌≡◌, map, IfOk, IfErr};
 ghost use Rattle.npp_frac.specs.Fits.{limit_of};
 ghost use Rattle.npp_net.specs.Network.{Network};
 ghost use Rattle.npp_rows.specs.Meaning.{multiplier_value};
+ghost use Rattle.npp_rows.specs.Parts.{is_full};
 ghost use Rattle.npp_tree.specs.Bounds.{bound_value, greater};
 ghost use Rattle.npp_tree.specs.Items.{item_of};
 ghost use Rattle.npp_check.specs.declared.stop.Stop.{Stop};
@@ -11,16 +12,14 @@ ghost use Rattle.npp_check.specs.Descents.{IsDescent, first_program, first_befor
 ghost use Rattle.npp_check.specs.Stages.{from_stage, AtNodes};
 ghost use Rattle.npp_check.specs.Standing.{AreOfRows};
 ghost use Rattle.npp_check.specs.StageValue.{known_value, sum_value, nodes_value, multipliers_value, stage_value, step_value};
-ghost use Rattle.npp_check.specs.Steps.{Steps, Leads, IsStageOf};
+ghost use Rattle.npp_check.specs.Steps.{Steps, Leads, is_of_choice, IsStageOf};
 
 use crate::block::{NodeBlock, Opening};
 use crate::descent::{Descent, Sum};
-use crate::known::Known;
 use crate::measured::Measured;
 use crate::node_proof::node_value;
 use crate::node_rows::multiplier_line;
-use crate::openings::{is_full, opening_line, whole_bound};
-use crate::places::Places;
+use crate::openings::{is_full, is_of_choice, opening_line, whole_bound};
 use crate::stage::Stage;
 use crate::stop::Stop;
 use npp_frac::Exact;
@@ -32,16 +31,16 @@ use std::alloc::Global;
 pub fn node_step<N: Exact>(
     alloc: Global,
     measured: &Measured,
-    descent: Descent<N>,
+    descent: Box<Descent<N>>,
     item: &Item<N>,
 ) -> Result<Stage<N>, Stop>
-    requires stage { IsStageOf measured.now (nodes_value N.rational descent) }
-    ensures { Steps (limit_of N.WIDTH) measured.now (nodes_value N.rational descent) (item_of N.rational item.now) (step_value N.rational measured.now.net result) }
+    requires stage { IsStageOf measured.now (nodes_value N.rational descent.value) }
+    ensures { Steps (limit_of N.WIDTH) measured.now (nodes_value N.rational descent.value) (item_of N.rational item.now) (step_value N.rational measured.now.net result) }
 {
     let full = is_full(descent.places.allowed());
     let opening = opening_line(full, item)?;
     match opening {
-        Opening::NotOpened => leave_open(measured, descent),
+        Opening::NotOpened => leave_open(alloc, measured, descent),
         Opening::Marked(_) => {
             let bound = bound_before(measured, &descent);
             Ok(Stage::Branch { descent, bound })
@@ -68,29 +67,40 @@ fn bound_before<N: Exact>(measured: &Measured, descent: &Descent<N>) -> Bound
 }
 
 /// The stage behind a node that was not opened.
-fn leave_open<N: Exact>(measured: &Measured, descent: Descent<N>) -> Result<Stage<N>, Stop>
-    requires { IsDescent N.rational measured.now.net descent }
-    ensures next { IfOk result (λ s. stage_value N.rational measured.now.net s ≡ AtNodes (known_value N.rational descent.known) descent.places.later
-        (record { opened = descent.sum.opened; bound = greater (bound_value descent.sum.bound) (first_before measured.now.net descent) })) }
+fn leave_open<N: Exact>(
+    alloc: Global,
+    measured: &Measured,
+    descent: Box<Descent<N>>,
+) -> Result<Stage<N>, Stop>
+    requires { IsDescent N.rational measured.now.net descent.value }
+    ensures next { IfOk result (λ s. stage_value N.rational measured.now.net s ≡ AtNodes (known_value N.rational descent.value.known) descent.value.places.later
+        (record { opened = descent.value.sum.opened; bound = greater (bound_value descent.value.sum.bound) (first_before measured.now.net descent.value) })) }
     ensures stop { IfErr result (λ e. e ≡ Stop.Memory) }
 {
     let before = bound_before(measured, &descent);
-    let Descent { known, sum, places } = descent;
+    let Sum { opened, bound } = descent.sum;
     let sum = Sum {
-        opened: sum.opened,
-        bound: sum.bound.greater(before),
+        opened,
+        bound: bound.greater(before),
     };
-    behind_node(known, sum, places)
+    behind_node(alloc, descent, sum)
 }
 
-/// The stage behind the first of some nodes.
-pub fn behind_node<N: Exact>(known: Known<N>, sum: Sum, places: Places) -> Result<Stage<N>, Stop>
-    ensures next { IfOk result (λ s. (net : Network) → stage_value N.rational net s ≡ AtNodes (known_value N.rational known) places.later (sum_value sum)) }
+/// The stage behind the first node, where the finished ones add up to this sum.
+pub fn behind_node<N: Exact>(
+    alloc: Global,
+    mut descent: Box<Descent<N>>,
+    sum: Sum,
+) -> Result<Stage<N>, Stop>
+    ensures next { IfOk result (λ s. (net : Network) → stage_value N.rational net s ≡ AtNodes (known_value N.rational descent.value.known) descent.value.places.later (sum_value sum)) }
     ensures stop { IfErr result (λ e. e ≡ Stop.Memory) }
 {
-    match places.advance()? {
-        Some(places) => Ok(Stage::Nodes(Descent { known, sum, places })),
-        None => Ok(Stage::End { known, sum }),
+    let tree = &mut *descent;
+    tree.sum = sum;
+    if tree.places.advance(alloc)? {
+        Ok(Stage::Nodes(descent))
+    } else {
+        Ok(Stage::End(descent))
     }
 }
 
@@ -98,12 +108,13 @@ pub fn behind_node<N: Exact>(known: Known<N>, sum: Sum, places: Places) -> Resul
 fn begin_block<N: Exact>(
     alloc: Global,
     measured: &Measured,
-    descent: Descent<N>,
+    descent: Box<Descent<N>>,
     block: NodeBlock<N>,
 ) -> Result<Stage<N>, Stop>
-    requires tree { IsDescent N.rational measured.now.net descent }
-    requires rows { AreOfRows (first_program N.rational measured.now.net descent) (map (multiplier_value N.rational) block.multipliers.items) }
-    ensures { Leads (limit_of N.WIDTH) measured.now (from_stage (limit_of N.WIDTH) measured.now (multipliers_value N.rational descent block)) (step_value N.rational measured.now.net result) }
+    requires tree { IsDescent N.rational measured.now.net descent.value }
+    requires kind { is_of_choice block.answer ≡ is_full descent.value.places.first.parts }
+    requires rows { AreOfRows (first_program N.rational measured.now.net descent.value) (map (multiplier_value N.rational) block.multipliers.items) }
+    ensures { Leads (limit_of N.WIDTH) measured.now (from_stage (limit_of N.WIDTH) measured.now (multipliers_value N.rational descent.value block)) (step_value N.rational measured.now.net result) }
 {
     if block.left > 0 {
         return Ok(Stage::Multipliers { descent, block });
@@ -117,14 +128,15 @@ fn begin_block<N: Exact>(
 pub fn multiplier_step<N: Exact>(
     alloc: Global,
     measured: &Measured,
-    descent: Descent<N>,
+    descent: Box<Descent<N>>,
     mut block: NodeBlock<N>,
     item: &Item<N>,
 ) -> Result<Stage<N>, Stop>
-    requires stage { IsStageOf measured.now (multipliers_value N.rational descent block) }
-    ensures { Steps (limit_of N.WIDTH) measured.now (multipliers_value N.rational descent block) (item_of N.rational item.now) (step_value N.rational measured.now.net result) }
+    requires stage { IsStageOf measured.now (multipliers_value N.rational descent.value block) }
+    ensures { Steps (limit_of N.WIDTH) measured.now (multipliers_value N.rational descent.value block) (item_of N.rational item.now) (step_value N.rational measured.now.net result) }
 {
-    let multiplier = multiplier_line(measured, &descent, &block.multipliers, item)?;
+    let full = is_of_choice(block.answer);
+    let multiplier = multiplier_line(measured, &descent, full, &block.multipliers, item)?;
     block.multipliers.push(multiplier)?;
     block.left -= 1;
     begin_block(alloc, measured, descent, block)

@@ -8,6 +8,7 @@ ghost use Rattle.npp_check.specs.NodeLines.{opening_line};
 ghost use Rattle.npp_check.specs.declared.block.Opening.{Opening};
 ghost use Rattle.npp_check.specs.declared.refusal.Rule.{Rule};
 ghost use Rattle.npp_check.specs.Rules.{broken_if};
+ghost use Rattle.npp_check.specs.Steps.{is_of_choice};
 
 use crate::block::{Answer, Opening};
 use crate::refusal::Rule;
@@ -39,6 +40,13 @@ fn answered(can: bool, answer: Answer, count: u32) -> Result<Opening, Rule>
     } else {
         Err(Rule::Evidence)
     }
+}
+
+/// Whether an answer is of the inverse program of a full choice.
+pub fn is_of_choice(answer: Answer) -> bool
+    ensures { result ≡ is_of_choice answer }
+{
+    matches!(answer, Answer::OfInverse | Answer::OfNoInverse)
 }
 
 /// Whether one path is allowed for each commodity.

@@ -34,7 +34,7 @@ impl Model for Places {
 }
 
 impl Places {
-    ghost use Rattle.std.specs.Prelude.{◌≡◌, ◌<◌, [], ◌∷◌, length, slice_set, IfOk, MatchOption};
+    ghost use Rattle.std.specs.Prelude.{◌≡◌, ◌<◌, [], ◌∷◌, length, slice_set, true, false, Ok, OnOk};
     ghost use Rattle.npp_tree.specs.Bounds.{bound_value};
 
     /// The place of a node alone, with the bound of its parent.
@@ -62,17 +62,13 @@ impl Places {
         self.parent
     }
 
-    /// The places behind the first one, or None where there are none.
-    pub fn advance(self) -> Result<Option<Places>, Memory>
-        ensures { IfOk result (λ o. MatchOption o (self.later ≡ []) (λ p. self.later ≡ p.first ∷ p.later)) }
+    /// Goes on to the places behind the first one. Where there are none the answer is false.
+    pub fn advance(&mut self, alloc: Global) -> Result<bool, Memory>
+        ensures next { result ≡ Ok true → self.old.later ≡ self.new.first ∷ self.new.later }
+        ensures none { result ≡ Ok false → self.old.later ≡ [] }
     {
-        let Places {
-            allowed,
-            mut later,
-            ..
-        } = self;
-        let Some(next) = later.pop() else {
-            return Ok(None);
+        let Some(next) = self.later.pop() else {
+            return Ok(false);
         };
         let Later {
             commodity,
@@ -81,63 +77,50 @@ impl Places {
             parent,
             changes,
         } = next;
-        let mut parts = allowed.parts.into_entries();
+        let allowed = mem::replace(&mut self.allowed.parts, Listed::of(Vec::new(alloc)));
+        let mut parts = allowed.into_entries();
         undo(&mut parts, changes);
         parts[commodity as usize] = rest;
+        self.allowed.parts = Listed::of(parts);
+        self.parent = parent;
         note(
-            &mut later,
+            &mut self.later,
             Change {
                 commodity,
                 part: whole,
             },
         )?;
-        let allowed = Allowed {
-            parts: Listed::of(parts),
-        };
-        Ok(Some(Places {
-            allowed,
-            parent,
-            later,
-        }))
+        Ok(true)
     }
 
-    /// The places of the two children of the first node, and those behind it. The children allow a commodity these paths,
-    /// the first child the part and the second the rest, and have this parent's bound.
+    /// Puts the two children of the first node in its place. The children allow a commodity these paths, the first child
+    /// the part and the second the rest, and have this parent's bound.
     pub fn split(
-        self,
+        &mut self,
         alloc: Global,
         commodity: u32,
         part: Listed<u32>,
         rest: Listed<u32>,
         bound: Bound,
-    ) -> Result<Places, Memory>
-        requires { commodity < length self.first.parts }
-        ensures { IfOk result (λ p. p ≡ record {
-          first = record { parts = slice_set self.first.parts commodity part; parent = bound_value bound };
-          later = record { parts = slice_set self.first.parts commodity rest; parent = bound_value bound } ∷ self.later;
+    ) -> Result<(), Memory>
+        requires { commodity < length self.old.first.parts }
+        ensures { OnOk result (self.new ≡ record {
+          first = record { parts = slice_set self.old.first.parts commodity part; parent = bound_value bound };
+          later = record { parts = slice_set self.old.first.parts commodity rest; parent = bound_value bound } ∷ self.old.later;
         }) }
     {
-        let Places {
-            allowed,
-            mut later,
-            ..
-        } = self;
-        let mut parts = allowed.parts.into_entries();
+        let allowed = mem::replace(&mut self.allowed.parts, Listed::of(Vec::new(alloc)));
+        let mut parts = allowed.into_entries();
         let whole = mem::replace(&mut parts[commodity as usize], part);
-        later.push(Later {
+        self.allowed.parts = Listed::of(parts);
+        self.parent = bound;
+        self.later.push(Later {
             commodity,
             whole,
             rest,
             parent: bound,
             changes: Vec::new(alloc),
         })?;
-        let allowed = Allowed {
-            parts: Listed::of(parts),
-        };
-        Ok(Places {
-            allowed,
-            parent: bound,
-            later,
-        })
+        Ok(())
     }
 }

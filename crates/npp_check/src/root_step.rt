@@ -44,7 +44,8 @@ pub fn tree_step<N: Exact>(
         bound: Bound::Empty,
     };
     let places = Places::one(alloc, allowed, basic);
-    Ok(Stage::Nodes(Descent { known, sum, places }))
+    let descent = Box::new(alloc, Descent { known, sum, places })?;
+    Ok(Stage::Nodes(descent))
 }
 
 /// All useful paths of each commodity.

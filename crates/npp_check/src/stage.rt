@@ -1,13 +1,13 @@
 //! Where a checker stands between two lines.
 
 use crate::block::{CutBlock, NodeBlock};
-use crate::descent::{Descent, Sum};
+use crate::descent::Descent;
 use crate::known::{Head, Known, OpenCover, Printed};
 use npp_cover::Cover;
 use npp_tree::{Bound, Pair, PathLine, Status};
 
 /// Which line comes next, with what the lines above it leave to be known. The second form of a certificate names the
-/// instance.
+/// instance. A stage is moved at each line: what is large stands in a box.
 #[derive(Drop)]
 pub enum Stage<N> {
     /// The first line.
@@ -82,56 +82,51 @@ pub enum Stage<N> {
     /// The head of a cover, or the number of cuts where all covers stand.
     Covers {
         /// What stands above the covers.
-        printed: Printed<N>,
+        printed: Box<Printed<N>>,
         /// The covers above.
         covers: Vec<Cover>,
     },
     /// A label of a cover, or its toll-free walk where all its labels stand.
     Labels {
         /// What stands above the covers.
-        printed: Printed<N>,
+        printed: Box<Printed<N>>,
         /// The cover, with those above it.
         cover: OpenCover,
     },
     /// A cut, or the head of the tree where all cuts stand.
     Cuts {
         /// What stands above.
-        known: Known<N>,
+        known: Box<Known<N>>,
         /// How many cuts are still to come.
         left: u32,
     },
     /// A multiplier of a cut.
     CutMultipliers {
         /// What stands above the cut.
-        known: Known<N>,
+        known: Box<Known<N>>,
         /// How many cuts are still to come behind it.
         left: u32,
         /// The cut.
         block: CutBlock<N>,
     },
     /// A node.
-    Nodes(Descent<N>),
+    Nodes(Box<Descent<N>>),
     /// A multiplier of the first node's evidence.
     Multipliers {
         /// The tree.
-        descent: Descent<N>,
+        descent: Box<Descent<N>>,
         /// The evidence.
         block: NodeBlock<N>,
     },
     /// The line behind the evidence of the first node.
     Branch {
         /// The tree.
-        descent: Descent<N>,
+        descent: Box<Descent<N>>,
         /// The bound of the node.
         bound: Bound,
     },
-    /// The last line.
-    End {
-        /// What stands above the tree.
-        known: Known<N>,
-        /// What its nodes add up to.
-        sum: Sum,
-    },
+    /// The last line. No node of the tree is still to come.
+    End(Box<Descent<N>>),
     /// Nothing: the last line stands above.
     Behind(Pair),
 }

@@ -60,7 +60,7 @@ pub fn step<N: Exact>(
             multiplier_step(alloc, measured, descent, block, &item)
         }
         Stage::Branch { descent, bound } => branch_step(alloc, measured, descent, bound, item),
-        Stage::End { known, sum } => end_step(measured, known, sum, &item),
+        Stage::End(descent) => end_step(measured, &descent, &item),
         Stage::Behind(_) => Err(Stop::Broken(Rule::Order)),
     }
 }

@@ -19,7 +19,7 @@ use Rattle.npp_check.proofs.branch_steps.branch_step.Goals as goal
 pub returns-in-Leaf : goal.returns-in-Leaf
 returns-in-Leaf g c =
     let v = g.N.Exact.rational in
-    let d = c.args.descent in
+    let d = c.args.descent.value in
     let old = branch_value v d c.args.bound in
     let sum : Sum = record { opened = d.sum.opened + 1; bound = greater (bound_value d.sum.bound) (bound_value c.args.bound) } in
     let new = AtNodes (known_value v d.known) d.places.later sum in
@@ -33,19 +33,19 @@ returns-in-Leaf g c =
 pub split_step-requires : goal.split_step-requires
 split_step-requires g c =
     let v = g.N.Exact.rational in
-    let d = c.args.descent in
+    let d = c.args.descent.value in
     parts_rise (path_model c.args.measured.now.net d.known.covers.items) d.places.first.parts
     (tree_first c.args.measured.now.net d.known.covers.items (map (cut_value v) d.known.cuts.items) (child_place (bound_value c.args.bound) d.places.first.parts) d.places.later c.requires.stage)
 
 pub returns-in-Split : goal.returns-in-Split
 returns-in-Split g c =
     let v = g.N.Exact.rational in
-    subst (λ (x : Item g.row.N.Denot). Steps (limit_of g.N.Exact.WIDTH) c.args.measured.now (branch_value v c.args.descent c.args.bound) (item_of v x) (step_value v c.args.measured.now.net c.split_step.result))
+    subst (λ (x : Item g.row.N.Denot). Steps (limit_of g.N.Exact.WIDTH) c.args.measured.now (branch_value v c.args.descent.value c.args.bound) (item_of v x) (step_value v c.args.measured.now.net c.split_step.result))
     (sym c.in-Split.is) (c.split_step.ensures c.args.measured.now c.requires.stage)
 
 pub returns-in_default : goal.returns-in_default
 returns-in_default g c =
     let v = g.N.Exact.rational in
-    let d = c.args.descent in
+    let d = c.args.descent.value in
     branch_breaks (limit_of g.N.Exact.WIDTH) c.args.measured.now (known_value v d.known) d.places.later (sum_value d.sum) d.places.first.parts (bound_value c.args.bound) (item_of v c.args.item) rule.Order
     (no_branch v c.args.item d.places.first.parts c.in_default.not-Leaf c.in_default.not-Split)

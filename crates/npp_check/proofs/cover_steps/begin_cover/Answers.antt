@@ -12,15 +12,15 @@ use Rattle.npp_check.proofs.cover_steps.begin_cover.Goals as goal
 
 pub returns-in_err-left : goal.returns-in_err-left
 returns-in_err-left g c =
-    refused_so g.N.Exact.rational (limit_of g.N.Exact.WIDTH) c.args.measured.now (covers_value g.N.Exact.rational c.args.measured.now.net c.args.printed c.args.covers.items) (item_of g.N.Exact.rational c.args.item.now) c.in_err-left.field-0.0 c.from_residual.result c.from_residual.ensures.1
-    (cover_breaks (limit_of g.N.Exact.WIDTH) c.args.measured.now (head_value g.N.Exact.rational c.args.printed.head) (map g.N.Exact.rational c.args.printed.tolls.items) (map (path_line_value g.N.Exact.rational) c.args.printed.paths.items) c.args.covers.items (item_of g.N.Exact.rational c.args.item.now) c.requires.more c.in_err-left.field-0.0
+    refused_so g.N.Exact.rational (limit_of g.N.Exact.WIDTH) c.args.measured.now (covers_value g.N.Exact.rational c.args.measured.now.net c.args.printed.value c.args.covers.items) (item_of g.N.Exact.rational c.args.item.now) c.in_err-left.field-0.0 c.from_residual.result c.from_residual.ensures.1
+    (cover_breaks (limit_of g.N.Exact.WIDTH) c.args.measured.now (head_value g.N.Exact.rational c.args.printed.value.head) (map g.N.Exact.rational c.args.printed.value.tolls.items) (map (path_line_value g.N.Exact.rational) c.args.printed.value.paths.items) c.args.covers.items (item_of g.N.Exact.rational c.args.item.now) c.requires.more c.in_err-left.field-0.0
     (c.in_err-left.ensures ∙ ap (λ (k : ℕ). cover_line k (item_of g.N.Exact.rational c.args.item.now)) (c.len-k.ensures ∙ c.args.covers.ok.0)))
 
 pub returns : goal.returns
 returns g c =
     let judged = c.in_ok-left.ensures ∙ ap (λ (k : ℕ). cover_line k (item_of g.N.Exact.rational c.args.item.now)) (c.len-k.ensures ∙ c.args.covers.ok.0) in (
-      cover_goes (limit_of g.N.Exact.WIDTH) c.args.measured.now (head_value g.N.Exact.rational c.args.printed.head) (map g.N.Exact.rational c.args.printed.tolls.items) (map (path_line_value g.N.Exact.rational) c.args.printed.paths.items) c.args.covers.items (item_of g.N.Exact.rational c.args.item.now) c.requires.more c.in_ok-left.left c.new-draft.result judged (ap (λ x. x.labels) c.new-draft.ensures.new),
-      labels_begin c.args.measured.now (map g.N.Exact.rational c.args.printed.tolls.items) (map (path_line_value g.N.Exact.rational) c.args.printed.paths.items) c.args.covers.items c.in_ok-left.left c.new-draft.result c.requires.stage c.requires.more (count_says (length c.args.covers.items) (item_of g.N.Exact.rational c.args.item.now) c.in_ok-left.left (sym judged))
+      cover_goes (limit_of g.N.Exact.WIDTH) c.args.measured.now (head_value g.N.Exact.rational c.args.printed.value.head) (map g.N.Exact.rational c.args.printed.value.tolls.items) (map (path_line_value g.N.Exact.rational) c.args.printed.value.paths.items) c.args.covers.items (item_of g.N.Exact.rational c.args.item.now) c.requires.more c.in_ok-left.left c.new-draft.result judged (ap (λ x. x.labels) c.new-draft.ensures.new),
+      labels_begin c.args.measured.now (map g.N.Exact.rational c.args.printed.value.tolls.items) (map (path_line_value g.N.Exact.rational) c.args.printed.value.paths.items) c.args.covers.items c.in_ok-left.left c.new-draft.result c.requires.stage c.requires.more (count_says (length c.args.covers.items) (item_of g.N.Exact.rational c.args.item.now) c.in_ok-left.left (sym judged))
           c.len-k.result (c.len-k.ensures ∙ c.args.covers.ok.0) c.span.result c.span.ensures.value c.new-draft.ensures.new
           (c.new-draft.ensures.draft c.args.measured.now.net (omega (arith, c.requires.more, (c.len-k.ensures ∙ c.args.covers.ok.0))) c.span.ensures.span),
     )

@@ -5,7 +5,10 @@ use Rattle.npp_rows.specs.Caps.{path_model}
 use Rattle.npp_tree.specs.Items.{item_of}
 use Rattle.npp_tree.specs.Outcome.{path_line_value}
 use Rattle.npp_check.specs.CutLines.{cuts_line}
-use Rattle.npp_check.specs.StageValue.{head_value, covers_value}
+use Rattle.npp_check.specs.declared.known.Known.{Known}
+use Rattle.npp_check.specs.declared.stop.Stop.TheVariants as stop
+use Rattle.npp_check.proofs.NodeStepLemmas.{wants}
+use Rattle.npp_check.specs.StageValue.{head_value, covers_value, cuts_value}
 use Rattle.std.proofs.Common.{List}
 use Rattle.npp_rows.specs.Cuts.{Cut}
 use Rattle.npp_rows.specs.Meaning.{cut_value}
@@ -33,8 +36,13 @@ returns g c =
     let judged = rw c.deref.ensures.value at c.in_ok-left.ensures in
     let here = judged ∙ ap (λ (n : Network). cuts_line (limit_of g.N.Exact.WIDTH) n (path_model n c.args.covers.items) (map g.N.Exact.rational c.args.printed.tolls.items) (map (path_line_value g.N.Exact.rational) c.args.printed.paths.items) (head_value g.N.Exact.rational c.args.printed.head).lower (item_of g.N.Exact.rational c.args.item.now)) c.instance.ensures.instance in
     let none = ap (map (cut_value g.N.Exact.rational)) c.new.ensures.items in
-    subst (λ (rows : List Cut). Steps (limit_of g.N.Exact.WIDTH) c.args.measured.now (covers_value g.N.Exact.rational c.args.measured.now.net c.args.printed c.args.covers.items) (item_of g.N.Exact.rational c.args.item.now) (Ok (AtCuts (head_value g.N.Exact.rational c.args.printed.head) c.args.covers.items c.in_ok-left.left rows))) (sym none) (
+    subst (λ (k : Known g.row.N.Denot). Steps (limit_of g.N.Exact.WIDTH) c.args.measured.now (covers_value g.N.Exact.rational c.args.measured.now.net c.args.printed c.args.covers.items) (item_of g.N.Exact.rational c.args.item.now) (Ok (cuts_value g.N.Exact.rational k c.in_ok-left.left))) (sym c.in_ok-known.ensures.ok)
+    (subst (λ (rows : List Cut). Steps (limit_of g.N.Exact.WIDTH) c.args.measured.now (covers_value g.N.Exact.rational c.args.measured.now.net c.args.printed c.args.covers.items) (item_of g.N.Exact.rational c.args.item.now) (Ok (AtCuts (head_value g.N.Exact.rational c.args.printed.head) c.args.covers.items c.in_ok-left.left rows))) (sym none) (
       cuts_goes (limit_of g.N.Exact.WIDTH) c.args.measured.now (head_value g.N.Exact.rational c.args.printed.head) (map g.N.Exact.rational c.args.printed.tolls.items) (map (path_line_value g.N.Exact.rational) c.args.printed.paths.items) c.args.covers.items (item_of g.N.Exact.rational c.args.item.now) c.requires.all c.in_ok-left.left here,
       cuts_begin c.args.measured.now.net c.args.covers.items c.in_ok-left.left (covers_stand c.args.measured.now.net c.args.measured.now.net c.args.covers.items refl c.requires.all c.requires.stage.1)
           (few_cuts (limit_of g.N.Exact.WIDTH) c.args.measured.now.net (path_model c.args.measured.now.net c.args.covers.items) (map g.N.Exact.rational c.args.printed.tolls.items) (map (path_line_value g.N.Exact.rational) c.args.printed.paths.items) (head_value g.N.Exact.rational c.args.printed.head).lower (item_of g.N.Exact.rational c.args.item.now) c.in_ok-left.left (sym here)),
-    )
+    ))
+
+pub returns-in_err-known : goal.returns-in_err-known
+returns-in_err-known g c =
+    wants g.N.Exact.rational (limit_of g.N.Exact.WIDTH) c.args.measured.now (covers_value g.N.Exact.rational c.args.measured.now.net c.args.printed c.args.covers.items) (item_of g.N.Exact.rational c.args.item.now) c.from_residual-in_err-known.result stop.Memory c.from_residual-in_err-known.ensures.1 refl

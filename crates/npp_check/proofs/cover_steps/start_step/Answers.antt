@@ -12,20 +12,20 @@ use Rattle.npp_check.proofs.LabelStepLemmas.{draft_good, table_good, start_takes
 use Rattle.npp_check.proofs.cover_steps.start_step.Goals as goal
 
 pub start-requires-clause-draft : goal.start-requires-clause-draft
-start-requires-clause-draft g c = draft_good c.args.measured.now (map g.N.Exact.rational c.args.printed.tolls.items) (map (path_line_value g.N.Exact.rational) c.args.printed.paths.items) (length c.args.measured.now.net.commodities - (length c.args.cover.covers.items + 1)) c.args.cover.covers.items c.args.cover.left c.args.cover.draft c.requires.stage c.instance-instance.result.now c.instance-instance.ensures.instance c.len.result (c.len.ensures ∙ c.args.cover.covers.ok.0)
+start-requires-clause-draft g c = draft_good c.args.measured.now (map g.N.Exact.rational c.args.printed.value.tolls.items) (map (path_line_value g.N.Exact.rational) c.args.printed.value.paths.items) (length c.args.measured.now.net.commodities - (length c.args.cover.covers.items + 1)) c.args.cover.covers.items c.args.cover.left c.args.cover.draft c.requires.stage c.instance-instance.result.now c.instance-instance.ensures.instance c.len.result (c.len.ensures ∙ c.args.cover.covers.ok.0)
 
 pub start-requires-clause-potentials : goal.start-requires-clause-potentials
-start-requires-clause-potentials g c = table_good c.args.measured.now (map g.N.Exact.rational c.args.printed.tolls.items) (map (path_line_value g.N.Exact.rational) c.args.printed.paths.items) (length c.args.measured.now.net.commodities - (length c.args.cover.covers.items + 1)) c.args.cover.covers.items c.args.cover.left c.args.cover.draft c.requires.stage c.instance-instance.result.now c.instance-instance.ensures.instance c.len.result (c.len.ensures ∙ c.args.cover.covers.ok.0) c.potentials-potentials.result.now c.potentials-potentials.ensures.distances
+start-requires-clause-potentials g c = table_good c.args.measured.now (map g.N.Exact.rational c.args.printed.value.tolls.items) (map (path_line_value g.N.Exact.rational) c.args.printed.value.paths.items) (length c.args.measured.now.net.commodities - (length c.args.cover.covers.items + 1)) c.args.cover.covers.items c.args.cover.left c.args.cover.draft c.requires.stage c.instance-instance.result.now c.instance-instance.ensures.instance c.len.result (c.len.ensures ∙ c.args.cover.covers.ok.0) c.potentials-potentials.result.now c.potentials-potentials.ensures.distances
 
 pub start-requires-clause-first : goal.start-requires-clause-first
 start-requires-clause-first g c = none_left c.args.cover.draft.labels (omega (arith, c.args.cover.counted, c.requires.first))
 
 pub returns-in-Ok : goal.returns-in-Ok
 returns-in-Ok g c =
-    start_takes (limit_of g.N.Exact.WIDTH) c.args.measured.now (head_value g.N.Exact.rational c.args.printed.head) (map g.N.Exact.rational c.args.printed.tolls.items) (map (path_line_value g.N.Exact.rational) c.args.printed.paths.items) (length c.args.measured.now.net.commodities - (length c.args.cover.covers.items + 1)) c.args.cover.covers.items c.args.cover.left c.args.cover.draft c.requires.stage c.instance-instance.result.now c.instance-instance.ensures.instance c.len.result (c.len.ensures ∙ c.args.cover.covers.ok.0) (cost_at c.potentials-potentials.result.now) c.potentials-potentials.ensures.costs (c.args.cover.left - 1) (omega (arith, c.requires.some)) (none_left c.args.cover.draft.labels (omega (arith, c.args.cover.counted, c.requires.first)))
+    start_takes (limit_of g.N.Exact.WIDTH) c.args.measured.now (head_value g.N.Exact.rational c.args.printed.value.head) (map g.N.Exact.rational c.args.printed.value.tolls.items) (map (path_line_value g.N.Exact.rational) c.args.printed.value.paths.items) (length c.args.measured.now.net.commodities - (length c.args.cover.covers.items + 1)) c.args.cover.covers.items c.args.cover.left c.args.cover.draft c.requires.stage c.instance-instance.result.now c.instance-instance.ensures.instance c.len.result (c.len.ensures ∙ c.args.cover.covers.ok.0) (cost_at c.potentials-potentials.result.now) c.potentials-potentials.ensures.costs (c.args.cover.left - 1) (omega (arith, c.requires.some)) (none_left c.args.cover.draft.labels (omega (arith, c.args.cover.counted, c.requires.first)))
     c.start.new.self c.in-Ok.ensures.fault c.in-Ok.ensures.labels c.in-Ok.ensures.draft
 
 pub returns-in-Err : goal.returns-in-Err
 returns-in-Err g c =
-    subst (λ (s : Stop). Steps (limit_of g.N.Exact.WIDTH) c.args.measured.now (AtLabels (head_value g.N.Exact.rational c.args.printed.head) (map g.N.Exact.rational c.args.printed.tolls.items) (map (path_line_value g.N.Exact.rational) c.args.printed.paths.items) (length c.args.measured.now.net.commodities - (length c.args.cover.covers.items + 1)) c.args.cover.covers.items c.args.cover.left c.args.cover.draft) item.Start (Err s)) (sym c.stop_of_fault.ensures)
-    (start_stops (limit_of g.N.Exact.WIDTH) c.args.measured.now (head_value g.N.Exact.rational c.args.printed.head) (map g.N.Exact.rational c.args.printed.tolls.items) (map (path_line_value g.N.Exact.rational) c.args.printed.paths.items) (length c.args.measured.now.net.commodities - (length c.args.cover.covers.items + 1)) c.args.cover.covers.items c.args.cover.left c.args.cover.draft c.requires.stage c.instance-instance.result.now c.instance-instance.ensures.instance c.len.result (c.len.ensures ∙ c.args.cover.covers.ok.0) (cost_at c.potentials-potentials.result.now) c.potentials-potentials.ensures.costs (c.args.cover.left - 1) (omega (arith, c.requires.some)) (none_left c.args.cover.draft.labels (omega (arith, c.args.cover.counted, c.requires.first))) c.in-Err.fault c.in-Err.ensures.fault)
+    subst (λ (s : Stop). Steps (limit_of g.N.Exact.WIDTH) c.args.measured.now (AtLabels (head_value g.N.Exact.rational c.args.printed.value.head) (map g.N.Exact.rational c.args.printed.value.tolls.items) (map (path_line_value g.N.Exact.rational) c.args.printed.value.paths.items) (length c.args.measured.now.net.commodities - (length c.args.cover.covers.items + 1)) c.args.cover.covers.items c.args.cover.left c.args.cover.draft) item.Start (Err s)) (sym c.stop_of_fault.ensures)
+    (start_stops (limit_of g.N.Exact.WIDTH) c.args.measured.now (head_value g.N.Exact.rational c.args.printed.value.head) (map g.N.Exact.rational c.args.printed.value.tolls.items) (map (path_line_value g.N.Exact.rational) c.args.printed.value.paths.items) (length c.args.measured.now.net.commodities - (length c.args.cover.covers.items + 1)) c.args.cover.covers.items c.args.cover.left c.args.cover.draft c.requires.stage c.instance-instance.result.now c.instance-instance.ensures.instance c.len.result (c.len.ensures ∙ c.args.cover.covers.ok.0) (cost_at c.potentials-potentials.result.now) c.potentials-potentials.ensures.costs (c.args.cover.left - 1) (omega (arith, c.requires.some)) (none_left c.args.cover.draft.labels (omega (arith, c.args.cover.counted, c.requires.first))) c.in-Err.fault c.in-Err.ensures.fault)

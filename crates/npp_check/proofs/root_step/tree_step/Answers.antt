@@ -1,4 +1,4 @@
-use Rattle.std.proofs.Common.{◌≡◌, ◌∙◌, map, ap, arith}
+use Rattle.std.proofs.Common.{◌≡◌, ◌∙◌, Ok, map, ap, sym, subst, refl, arith}
 use Rattle.npp_frac.specs.Fits.{limit_of}
 use Rattle.npp_rows.specs.Basic.{basic_of}
 use Rattle.npp_rows.specs.Caps.{path_model}
@@ -12,10 +12,13 @@ use Rattle.npp_tree.specs.Items.{item_of}
 use Rattle.npp_check.specs.EndLine.{tree_line}
 use Rattle.npp_check.specs.declared.refusal.Rule.TheVariants as rule
 use Rattle.npp_check.specs.NodeLines.{root_place}
+use Rattle.npp_check.specs.declared.descent.Descent.{Descent}
+use Rattle.npp_check.specs.declared.stop.Stop.TheVariants as stop
 use Rattle.npp_check.specs.PlaceStack.{PlaceList}
-use Rattle.npp_check.specs.StageValue.{known_value}
+use Rattle.npp_check.specs.Steps.{Steps}
+use Rattle.npp_check.specs.StageValue.{known_value, cuts_value, nodes_value}
 use Rattle.npp_check.proofs.CoverFacts.{basic_small}
-use Rattle.npp_check.proofs.NodeStepLemmas.{tree_begins, tree_breaks, not_tree}
+use Rattle.npp_check.proofs.NodeStepLemmas.{wants, tree_begins, tree_breaks, not_tree}
 use Rattle.npp_check.proofs.TreeStandLemmas.{same_closed, same_allowed, same_basic, tree_root_at}
 use Rattle.npp_check.proofs.root_step.tree_step.Goals as goal
 
@@ -45,7 +48,14 @@ returns g c =
     c.whole_bound-basic.ensures ∙ ap at_whole (c.basic_of.ensures.value ∙ same_basic c.instance.ensures.instance c.deref.ensures.value c.in_ok-allowed.ensures) in
     let parent = ap (λ (p : PlaceList). p.first.parent) c.one-places.ensures ∙ basic in
     let root : c.one-places.result.first ≡ root_place m = λ i. record { parts = parts i; parent = parent i } in
-    let none = ap (λ (p : PlaceList). p.later) c.one-places.ensures in (
+    let none = ap (λ (p : PlaceList). p.later) c.one-places.ensures in
+    let old = cuts_value v c.args.known 0 in
+    subst (λ (d : Descent g.row.N.Denot). Steps (limit_of g.N.Exact.WIDTH) c.args.measured.now old (item_of v c.args.item.now) (Ok (nodes_value v d))) (sym c.in_ok-descent.ensures.ok) (
       tree_begins (limit_of g.N.Exact.WIDTH) c.args.measured.now (known_value v c.args.known) (item_of v c.args.item.now) tt c.one-places.result.first c.one-places.result.later (ap (λ (x : Item g.row.N.Denot). tree_line (item_of v x)) c.in-Tree.is) root none,
       tree_root_at c.args.measured.now.net c.args.known.covers.items (map (cut_value v) c.args.known.cuts.items) c.one-places.result.first c.one-places.result.later none parts c.requires,
     )
+
+pub returns-in_err-descent : goal.returns-in_err-descent
+returns-in_err-descent g c =
+    let v = g.N.Exact.rational in
+    wants v (limit_of g.N.Exact.WIDTH) c.args.measured.now (cuts_value v c.args.known 0) (item_of v c.args.item.now) c.from_residual-in_err-descent.result stop.Memory c.from_residual-in_err-descent.ensures.1 refl
