@@ -34,7 +34,7 @@ least() {
 list_triples() {
   "$rust" "$(($1 / 200 + 1))" 0 < "$folder/line" > "$folder/unread"
   count="$((($(wc -w < "$folder/unread") - 3) / 6))"
-  repeat="$((5000000 / count + 1))"
+  repeat="$((20000000 / count + 1))"
   sed -E "s/^(triples [0-9]+) 0/\1 $repeat/" "$folder/unread" > "$folder/triples"
 }
 
