@@ -1,9 +1,9 @@
 //! The work on the root of a search, as far as a stage goes.
 
-ghost use Rattle.std.specs.Prelude.{◌≤◌};
+ghost use Rattle.std.specs.Prelude.{◌≡◌, ◌≤◌};
 ghost use Rattle.npp_rows.specs.Limits.{path_total};
 ghost use Rattle.npp_rows.specs.Lowering.{AreClosedCovers};
-ghost use Rattle.npp_rows.specs.Parts.{IsAllowed};
+ghost use Rattle.npp_rows.specs.Parts.{IsAllowed, all_paths};
 ghost use Rattle.npp_inverse.specs.Offers.{HasUsefulPaths};
 
 use crate::text::text_of;
@@ -65,12 +65,13 @@ fn told_of_node<'a, N: Exact>(
 ) -> Result<Option<String>, Memory>
     requires useful { HasUsefulPaths table.now }
     requires allowed { IsAllowed table.now allowed.now.parts }
+    requires whole { allowed.now.parts ≡ all_paths table.now }
 {
     let index = RelaxationIndex::new(alloc, table, allowed)?;
     match stage {
         Stage::Evidence => Ok(found_often::<N>(alloc, table, allowed, repeat)),
-        Stage::Round => Ok(rounded_often::<N>(alloc, table, 1, repeat)),
-        Stage::Rounds => Ok(rounded_often::<N>(alloc, table, table.commodities(), repeat)),
+        Stage::Round => Ok(rounded_often::<N>(alloc, &index, 1, repeat)),
+        Stage::Rounds => Ok(rounded_often::<N>(alloc, &index, table.commodities(), repeat)),
         _ => Ok(often_told::<N>(alloc, &index, stage, repeat)),
     }
 }
@@ -78,10 +79,12 @@ fn told_of_node<'a, N: Exact>(
 /// What the rounded sum of a row of each of so many commodities is, the last time of so many.
 fn rounded_often<N: Exact>(
     alloc: Global,
-    table: &PathTable,
+    index: &RelaxationIndex,
     count: u32,
     repeat: u32,
-) -> Option<String> {
+) -> Option<String>
+    requires whole { index.now.parts ≡ all_paths index.now.paths }
+{
     let mut y = Vec::new(alloc);
     for k in 0..count {
         let (row, value) = (RowName::One(k), N::of_whole(1));
@@ -90,7 +93,7 @@ fn rounded_often<N: Exact>(
     let round = Derivation::Round { y: Listed::of(y) };
     let mut text = String::new(alloc);
     for _ in 0..repeat {
-        text = rounded_text(alloc, table, &round)?;
+        text = rounded_text(alloc, index, &round)?;
     }
     Some(text)
 }
@@ -98,11 +101,13 @@ fn rounded_often<N: Exact>(
 /// How large a derived row is.
 fn rounded_text<N: Exact>(
     alloc: Global,
-    table: &PathTable,
+    index: &RelaxationIndex,
     derivation: &Derivation<N>,
-) -> Option<String> {
+) -> Option<String>
+    requires whole { index.now.parts ≡ all_paths index.now.paths }
+{
     let earlier = Vec::<CutRow<N>>::new(alloc);
-    match table.check_derivation(alloc, &earlier, derivation) {
+    match index.check_derivation(alloc, &earlier, derivation) {
         Ok(row) => format!(in alloc; "{} terms", row.terms.len()).ok(),
         Err(_) => format!(in alloc; "no derivation").ok(),
     }

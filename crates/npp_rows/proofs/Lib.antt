@@ -16,6 +16,8 @@ pub mod RowPlaces
 pub mod FoundLaws
 pub mod TakenLaws
 pub mod RoundingLaws
+pub mod TouchedLaws
+pub mod ShareLaws
 pub mod ConflictLaws
 pub mod PairLaws
 pub mod FaultLaws
@@ -42,6 +44,7 @@ pub mod ExactLaws
 pub mod CapLaws
 pub mod WholeLaws
 pub mod UnionLaws
+pub mod RaiseLaws
 pub mod SizeLaws
 pub mod ThreeCommodities
 pub mod Examples

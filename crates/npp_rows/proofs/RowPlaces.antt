@@ -277,13 +277,13 @@ module _ (m : PathModel) where
 
     -- ---- where its columns stand
 
-    toll_columns_size : length (map Toll (tolls m)) ≡ length m.caps
+    pub toll_columns_size : length (map Toll (tolls m)) ≡ length m.caps
     toll_columns_size = rw (length-map (tolls m) Toll) (length-range_with_len 0 (length m.caps))
 
     share_starts : (k : ℕ) → sum_below (λ l. length (map (Share l) (part_at parts l))) k ≡ sum_below (share_count parts) k
     share_starts k = sum_below_same (λ l. length (map (Share l) (part_at parts l))) (share_count parts) k (λ l u. length-map (part_at parts l) (Share l))
 
-    shares_size : length (map Toll (tolls m) ++ shares m parts) ≡ shares_from m parts (length m.covers)
+    pub shares_size : length (map Toll (tolls m) ++ shares m parts) ≡ shares_from m parts (length m.covers)
     shares_size = omega (arith, length-append (map Toll (tolls m)) (shares m parts), toll_columns_size, flat_size (λ l. map (Share l) (part_at parts l)) (length m.covers), share_starts (length m.covers))
 
     pub toll_in_columns : (a : ℕ) → a < length m.caps → StandsAt (relaxation_columns m parts) a (Toll a)

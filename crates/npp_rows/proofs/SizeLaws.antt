@@ -12,12 +12,13 @@ use Rattle.npp_rows.specs.Family.{paid_count}
 use Rattle.npp_rows.proofs.StartLaws.{sum_below_same}
 use Rattle.npp_rows.proofs.TermLaws.{flat_size}
 
-module _ (m : PathModel) (parts : List (List ℕ)) where
-  follows_size : length (flat_map (follow_rows m) (commodities m)) ≡ sum_below (path_count m) (length m.covers)
-  follows_size =
-      flat_size (follow_rows m) (length m.covers)
-      ∙ sum_below_same (λ k. length (follow_rows m k)) (path_count m) (length m.covers) (λ k u. length-map-range_with_len (Follow k) 0 (path_count m k))
+-- how many useful paths there are is how many rows of them
+pub follows_size : (m : PathModel) → length (flat_map (follow_rows m) (commodities m)) ≡ sum_below (path_count m) (length m.covers)
+follows_size m =
+    flat_size (follow_rows m) (length m.covers)
+    ∙ sum_below_same (λ k. length (follow_rows m k)) (path_count m) (length m.covers) (λ k u. length-map-range_with_len (Follow k) 0 (path_count m k))
 
+module _ (m : PathModel) (parts : List (List ℕ)) where
   pairs_size : (name : ℕ → ℕ → RowName) → length (on_allowed_tolls m parts name) ≡ sum_below (paid_count m parts) (length m.covers)
   pairs_size name =
       flat_size (λ k. map (λ a. name a k) (allowed_tolls m parts k)) (length m.covers)
@@ -30,4 +31,4 @@ module _ (m : PathModel) (parts : List (List ℕ)) where
       let ones = length-map-range_with_len One 0 (length m.covers) in
       let lows = length-map-range_with_len OneLow 0 (length m.covers) in
       let last = length-map-range_with_len Cut 0 cuts in
-      simp length-append (omega (arith, caps, follows_size, pairs_size Below, pairs_size Use, pairs_size Link, ones, lows, last))
+      simp length-append (omega (arith, caps, follows_size m, pairs_size Below, pairs_size Use, pairs_size Link, ones, lows, last))

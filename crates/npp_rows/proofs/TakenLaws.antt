@@ -133,7 +133,7 @@ module _ (rows : List RowName) (rises : DoRise rows) where
   row_stands r None e h = let none : has_row rows r ≡ false = no_place_has rows r e in cc
   row_stands r (Some i) e h = (place_has rows r i e).0
 
-  stands_placed : (y : Multiplier Rational) → has_row rows y.row ≡ true → StandsAt rows (placed_one rows y).row y.row
+  pub stands_placed : (y : Multiplier Rational) → has_row rows y.row ≡ true → StandsAt rows (placed_one rows y).row y.row
   stands_placed y h = row_stands y.row (row_place rows y.row) refl h
 
   abbrev StartsFrom : ℕ → List (Multiplier Rational) → Type 0

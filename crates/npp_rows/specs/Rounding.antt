@@ -1,14 +1,18 @@
 -- A combination of rows by the sums that stand at its columns.
-use Rattle.std.specs.Prelude.{ℕ, ◌+◌, List, [], ◌∷◌, ◌++◌, length, not, Option, None, Result, Ok, Err, if◌then◌else◌}
+use Rattle.std.specs.Prelude.{◌≡◌, ◌⊎◌, ℕ, ◌+◌, ◌<◌, List, [], ◌∷◌, ◌++◌, length, not, Option, None, Result, Ok, Err, if◌then◌else◌, All, Contains}
+use Rattle.std.specs.List.{AllPairs}
 use Rattle.npp_frac.specs.Rational.{Rational, zero_ℚ}
 use Rattle.npp_frac.specs.Sign.{is_zero}
 use Rattle.npp_frac.specs.declared.refusal.Overflow.{Overflow as Stop}
+use Rattle.npp_lp.specs.Duals.{coefficient}
 use Rattle.npp_lp.specs.Verdict.{or_else, first_below, sum_fault}
 use Rattle.npp_lp.specs.RunningSums.{Sums, column_of}
 use Rattle.npp_rows.specs.declared.names.ColumnName.{ColumnName}
+use Rattle.npp_rows.specs.declared.names.Multiplier.{Multiplier}
 use Rattle.npp_rows.specs.declared.cut.CutTerm.{CutTerm}
 use Rattle.npp_rows.specs.declared.cut.CutFault.{CutFault}
 use Rattle.npp_rows.specs.declared.cut.CutFault.TheVariants.{TollColumn, Overflow}
+use Rattle.npp_rows.specs.Named.{NamedProgram, terms_from}
 use Rattle.npp_rows.specs.Cuts.{Cut}
 use Rattle.npp_rows.specs.Derivations.{fault_if, is_share, column_at, rounded, share_term}
 
@@ -43,3 +47,17 @@ rounded_sums s j (c ∷ rest) = share_term c (rounded (sum_or_zero (column_of s 
 -- the row of the rounded sums
 abbrev pub rounded_cut : List ColumnName → Sums Rational → Cut
 rounded_cut columns s = record { terms = rounded_sums s 0 columns; right = rounded (sum_or_zero s.right) }
+
+-- the term of the rounded sum of a column
+abbrev pub term_in : List ColumnName → Sums Rational → ℕ → List (CutTerm Rational)
+term_in columns s j = share_term (column_at columns j) (rounded (sum_or_zero (column_of s j)))
+
+-- some rows stand in no other columns of a program than these
+abbrev pub StandOnlyIn : NamedProgram → List (Multiplier Rational) → List ℕ → Type 0
+StandOnlyIn p ys columns = (j : ℕ) → j < length p.columns → (Contains columns j) ⊎ (All (λ y. coefficient (terms_from 0 (p.entry y.row) p.columns) j ≡ zero_ℚ) ys)
+
+-- some of n columns by rising number, outside of which all sums are 0
+pub record HoldSums (n : ℕ) (s : Sums Rational) (columns : List ℕ) : Type 0 where
+  pub rising : AllPairs (λ i j. i < j) columns
+  pub inside : All (λ j. j < n) columns
+  pub others : (j : ℕ) → j < n → (Contains columns j) ⊎ (column_of s j ≡ Ok zero_ℚ)

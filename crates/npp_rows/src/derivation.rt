@@ -10,10 +10,12 @@ ghost use Rattle.npp_rows.specs.Promises.{DerivationHolds};
 ghost use Rattle.npp_rows.specs.Cuts.{IsCut};
 ghost use Rattle.npp_rows.specs.Derivations.{derivation_verdict};
 ghost use Rattle.npp_rows.specs.Meaning.{cut_value, derivation_value, derivation_result};
+ghost use Rattle.npp_rows.specs.Parts.{all_paths};
 
 use crate::conflict::derive_conflict;
 use crate::conflict_rows::TwoPaths;
 use crate::cut::{CutFault, CutRow, Derivation};
+use crate::index::RelaxationIndex;
 use crate::pair::{PathAndOther, derive_pair};
 use crate::round::derive_round;
 use crate::table::PathTable;
@@ -81,6 +83,34 @@ impl PathTable<'_> {
                 derive_pair(alloc, self, earlier, pair, cuts.entries())
             }
             Derivation::Round { y } => derive_round(alloc, self, earlier, y.entries()),
+        }
+    }
+}
+
+impl RelaxationIndex<'_> {
+    /// The row that a derivation gives after some earlier rows, or the first fault of the derivation: what
+    /// [`check_derivation`](PathTable::check_derivation) of the table answers.
+    ///
+    /// The index is that of all useful paths. It is made once for all derivations, so a Round costs what its rows and the
+    /// columns do.
+    pub fn check_derivation<N: Exact>(
+        &self,
+        alloc: Global,
+        earlier: &[CutRow<N>],
+        derivation: &Derivation<N>,
+    ) -> Result<CutRow<N>, CutFault<N>>
+        requires whole { self.now.parts ≡ all_paths self.now.paths }
+        requires earlier { All (λ c. IsCut self.now.paths (cut_value N.rational c)) earlier.now }
+        requires few { length earlier.now ≤ 16777216 }
+        ensures verdict { (result ≡ Err CutFault.Memory) ⊎ (derivation_result N.rational result
+            ≡ derivation_verdict (limit_of N.WIDTH) self.now.paths (map (cut_value N.rational) earlier.now) (derivation_value N.rational derivation.now)) }
+        ensures cut { IfOk result (λ c. IsCut self.now.paths (cut_value N.rational c)) }
+    {
+        match derivation {
+            Derivation::Conflict { .. } | Derivation::Pair { .. } => {
+                self.table().check_derivation(alloc, earlier, derivation)
+            }
+            Derivation::Round { y } => self.round(alloc, earlier, y.entries()),
         }
     }
 }

@@ -1,6 +1,6 @@
 //! The numbers of the rows and columns of a relaxation.
 
-ghost use Rattle.std.specs.Prelude.{◌≡◌, ◌<◌, ◌≤◌, ◌==◌, ◌||◌, ℕ, length, All, map, filter, IfOk};
+ghost use Rattle.std.specs.Prelude.{◌≡◌, ◌<◌, ◌≤◌, ◌+◌, ◌==◌, ◌||◌, ℕ, length, All, map, filter, IfOk};
 ghost use Rattle.std.specs.List.{list_any, range_with_len, AllPairs};
 ghost use Rattle.std.specs.Int.{bit_at};
 ghost use Rattle.npp_cover.specs.PathValue.{path_value};
@@ -13,6 +13,7 @@ ghost use Rattle.npp_rows.specs.Family.{share_count, paid_count};
 ghost use Rattle.npp_rows.specs.Rows.{shares_from, paid_from};
 
 use crate::allowed::Allowed;
+use crate::search::piece_of;
 use crate::starts::list_starts;
 use crate::table::PathTable;
 use npp_cover::UsefulPath;
@@ -99,6 +100,16 @@ impl<'a> RelaxationIndex<'a> {
         ensures small { result ≤ 16777216 }
     {
         self.shares[k as usize]
+    }
+
+    /// The commodity of a share by its number among all shares. It takes the time of a search among the commodities.
+    pub(crate) fn commodity_of(&self, share: u32) -> u32
+        requires { share < sum_below (share_count self.now.parts) (length self.now.paths.covers) }
+        ensures inside { result < length self.now.paths.covers }
+        ensures low { sum_below (share_count self.now.parts) result ≤ share }
+        ensures high { share < sum_below (share_count self.now.parts) (result + 1) }
+    {
+        piece_of(&self.shares, share) as u32
     }
 
     /// How many tolls the allowed paths of the commodities below this number use, counted for each of them.

@@ -34,6 +34,7 @@ mod size;
 mod starts;
 mod table;
 mod toll_caps;
+mod touched;
 mod undercut;
 mod whole;
 

@@ -13,7 +13,7 @@ ghost use Rattle.npp_rows.specs.Cuts.{IsCut};
 ghost use Rattle.npp_rows.specs.Relax.{relaxation, relaxation_rows, relaxation_columns};
 ghost use Rattle.npp_rows.specs.Derivations.{whole_relaxation, round_fault, round_cut, rounded as rounded_of, share_term, fault_if};
 ghost use Rattle.npp_rows.specs.Meaning.{multiplier_value, cut_value, cut_term_value, cut_fault_value, derivation_result};
-ghost use Rattle.npp_rows.specs.Rounding.{toll_fault, toll_fault_at, share_fault, share_fault_at, rounding_fault, sum_or_zero, rounded_sums, rounded_cut};
+ghost use Rattle.npp_rows.specs.Rounding.{toll_fault_at, share_fault, share_fault_at, rounding_fault, sum_or_zero, rounded_sums, rounded_cut, term_in, HoldSums};
 ghost use Rattle.npp_rows.specs.Taken.{AreAdded};
 
 use crate::cut::{CutFault, CutRow, CutTerm};
@@ -26,8 +26,8 @@ use npp_frac::{Exact, is_zero};
 use npp_net::{Listed, Memory};
 use std::alloc::Global;
 
-/// The rounded combination of rows of the relaxation over all useful paths, or the first fault of its multipliers. It takes
-/// the time of the entries of the named rows and of the columns.
+/// The rounded combination of rows of the relaxation over all useful paths, or the first fault of its multipliers. It makes
+/// their index, in the time of the paths and of the tolls of each commodity.
 pub(crate) fn derive_round<N: Exact>(
     alloc: Global,
     table: &PathTable,
@@ -50,8 +50,9 @@ pub(crate) fn derive_round<N: Exact>(
 }
 
 impl RelaxationIndex<'_> {
-    /// The rounded combination of rows of the relaxation, or the first fault of its multipliers.
-    fn round<N: Exact>(
+    /// The rounded combination of rows of the relaxation, or the first fault of its multipliers. It takes the time of the
+    /// entries of the named rows, of putting their columns in order, and of a 0 for each column.
+    pub(crate) fn round<N: Exact>(
         &self,
         alloc: Global,
         earlier: &[CutRow<N>],
@@ -77,9 +78,9 @@ impl RelaxationIndex<'_> {
             return Err(CutFault::NotPositive);
         }
         let sums = self.sums(alloc, earlier, multipliers)?;
-        let columns = self.columns(alloc)?;
-        tolls_cancel(&sums, &columns)?;
-        rounded(alloc, &sums, &columns)
+        let columns = self.touched(alloc, earlier, multipliers)?;
+        self.tolls_cancel(&sums, &columns)?;
+        self.rounded(alloc, &sums, &columns)
     }
 
     /// Whether the relaxation with so many cuts has each of these rows.
@@ -116,32 +117,105 @@ impl RelaxationIndex<'_> {
         }
         Ok(sums)
     }
-}
 
-/// The first fault of the columns that are no shares: a sum that does not fit, or is not 0.
-fn tolls_cancel<N: Exact>(sums: &NamedSums<N>, columns: &[ColumnName]) -> Result<(), CutFault<N>>
-    requires columns { length columns.now ≡ length sums.now.sums.columns }
-    requires few { length columns.now ≤ 16790144 }
-    ensures { MatchResult result
-        (λ _. first_below (length columns.now) (toll_fault_at columns.now (sums_meant N.rational sums.now.sums)) ≡ None)
-        (λ e. first_below (length columns.now) (toll_fault_at columns.now (sums_meant N.rational sums.now.sums)) ≡ Some (cut_fault_value N.rational e)) }
-{
-    for (j, column) in columns.iter().enumerate() {
-        judge_toll(sums, *column, j as u32)?;
+    /// The first fault of the columns that are no shares: a sum that does not fit, or is not 0. It looks at the columns that
+    /// hold the sums alone.
+    fn tolls_cancel<N: Exact>(
+        &self,
+        sums: &NamedSums<N>,
+        columns: &[u32],
+    ) -> Result<(), CutFault<N>>
+        requires size { length sums.now.sums.columns ≡ length (relaxation_columns self.now.paths self.now.parts) }
+        requires hold { HoldSums (length (relaxation_columns self.now.paths self.now.parts)) (sums_meant N.rational sums.now.sums) columns.now }
+        ensures { MatchResult result
+            (λ _. first_below (length (relaxation_columns self.now.paths self.now.parts)) (toll_fault_at (relaxation_columns self.now.paths self.now.parts) (sums_meant N.rational sums.now.sums)) ≡ None)
+            (λ e. first_below (length (relaxation_columns self.now.paths self.now.parts)) (toll_fault_at (relaxation_columns self.now.paths self.now.parts) (sums_meant N.rational sums.now.sums)) ≡ Some (cut_fault_value N.rational e)) }
+    {
+        for column in columns {
+            self.judge_toll(sums, *column)?;
+        }
+        Ok(())
     }
-    Ok(())
-}
 
-/// The fault of a column, if it is no share.
-fn judge_toll<N: Exact>(sums: &NamedSums<N>, column: ColumnName, j: u32) -> Result<(), CutFault<N>>
-    requires { j < length sums.now.sums.columns }
-    ensures { MatchResult result
-        (λ _. toll_fault column (column_of (sums_meant N.rational sums.now.sums) j) ≡ None)
-        (λ e. toll_fault column (column_of (sums_meant N.rational sums.now.sums) j) ≡ Some (cut_fault_value N.rational e)) }
-{
-    match column {
-        ColumnName::Share(_, _) => Ok(()),
-        ColumnName::Toll(_) | ColumnName::Paid(_, _) => cancels(sums, j),
+    /// The fault of a column, if it is no share.
+    fn judge_toll<N: Exact>(&self, sums: &NamedSums<N>, column: u32) -> Result<(), CutFault<N>>
+        requires size { length sums.now.sums.columns ≡ length (relaxation_columns self.now.paths self.now.parts) }
+        requires column { column < length (relaxation_columns self.now.paths self.now.parts) }
+        ensures { MatchResult result
+            (λ _. toll_fault_at (relaxation_columns self.now.paths self.now.parts) (sums_meant N.rational sums.now.sums) column ≡ None)
+            (λ e. toll_fault_at (relaxation_columns self.now.paths self.now.parts) (sums_meant N.rational sums.now.sums) column ≡ Some (cut_fault_value N.rational e)) }
+    {
+        if self.is_share(column) {
+            return Ok(());
+        }
+        cancels(sums, column)
+    }
+
+    /// The row of the rounded sums of the shares, or the first of these sums that does not fit.
+    fn rounded<N: Exact>(
+        &self,
+        alloc: Global,
+        sums: &NamedSums<N>,
+        columns: &[u32],
+    ) -> Result<CutRow<N>, CutFault<N>>
+        requires size { length sums.now.sums.columns ≡ length (relaxation_columns self.now.paths self.now.parts) }
+        requires hold { HoldSums (length (relaxation_columns self.now.paths self.now.parts)) (sums_meant N.rational sums.now.sums) columns.now }
+        ensures { (result ≡ Err CutFault.Memory) ⊎ (derivation_result N.rational result
+            ≡ unless (rounding_fault (relaxation_columns self.now.paths self.now.parts) (sums_meant N.rational sums.now.sums))
+            (Ok (rounded_cut (relaxation_columns self.now.paths self.now.parts) (sums_meant N.rational sums.now.sums)))) }
+    {
+        let terms = self.rounded_terms(alloc, sums, columns)?;
+        match sums.right() {
+            Ok(sum) => Ok(CutRow {
+                terms: Listed::of(terms),
+                right: rounded_down(sum),
+            }),
+            Err(overflow) => Err(CutFault::Overflow(overflow)),
+        }
+    }
+
+    /// The terms of the rounded sums of the shares, or the first of these sums that does not fit.
+    fn rounded_terms<N: Exact>(
+        &self,
+        alloc: Global,
+        sums: &NamedSums<N>,
+        columns: &[u32],
+    ) -> Result<Vec<CutTerm<N>>, CutFault<N>>
+        requires size { length sums.now.sums.columns ≡ length (relaxation_columns self.now.paths self.now.parts) }
+        requires hold { HoldSums (length (relaxation_columns self.now.paths self.now.parts)) (sums_meant N.rational sums.now.sums) columns.now }
+        ensures { MatchResult result
+            (λ v. (first_below (length (relaxation_columns self.now.paths self.now.parts)) (share_fault_at (relaxation_columns self.now.paths self.now.parts) (sums_meant N.rational sums.now.sums)) ≡ None)
+            × (map (cut_term_value N.rational) v.items ≡ rounded_sums (sums_meant N.rational sums.now.sums) 0 (relaxation_columns self.now.paths self.now.parts)))
+            (λ e. (e ≡ CutFault.Memory)
+            ⊎ (first_below (length (relaxation_columns self.now.paths self.now.parts)) (share_fault_at (relaxation_columns self.now.paths self.now.parts) (sums_meant N.rational sums.now.sums)) ≡ Some (cut_fault_value N.rational e))) }
+    {
+        let mut terms = Vec::new(alloc);
+        for column in columns {
+            self.push_rounded(&mut terms, sums, *column)?;
+        }
+        Ok(terms)
+    }
+
+    /// Adds the term of the rounded sum of a column, if it is a share, or tells that its sum does not fit.
+    fn push_rounded<N: Exact>(
+        &self,
+        terms: &mut Vec<CutTerm<N>>,
+        sums: &NamedSums<N>,
+        column: u32,
+    ) -> Result<(), CutFault<N>>
+        requires size { length sums.now.sums.columns ≡ length (relaxation_columns self.now.paths self.now.parts) }
+        requires column { column < length (relaxation_columns self.now.paths self.now.parts) }
+        ensures { MatchResult result
+            (λ _. (share_fault_at (relaxation_columns self.now.paths self.now.parts) (sums_meant N.rational sums.now.sums) column ≡ None)
+            × (map (cut_term_value N.rational) terms.new.items
+            ≡ map (cut_term_value N.rational) terms.old.items ++ term_in (relaxation_columns self.now.paths self.now.parts) (sums_meant N.rational sums.now.sums) column))
+            (λ e. (e ≡ CutFault.Memory)
+            ⊎ (share_fault_at (relaxation_columns self.now.paths self.now.parts) (sums_meant N.rational sums.now.sums) column ≡ Some (cut_fault_value N.rational e))) }
+    {
+        if !self.is_share(column) {
+            return Ok(());
+        }
+        push_share(terms, sums, self.share_at(column), column)
     }
 }
 
@@ -159,50 +233,8 @@ fn cancels<N: Exact>(sums: &NamedSums<N>, column: u32) -> Result<(), CutFault<N>
     }
 }
 
-/// The row of the rounded sums of the shares, or the first of these sums that does not fit.
-fn rounded<N: Exact>(
-    alloc: Global,
-    sums: &NamedSums<N>,
-    columns: &[ColumnName],
-) -> Result<CutRow<N>, CutFault<N>>
-    requires columns { length columns.now ≡ length sums.now.sums.columns }
-    requires few { length columns.now ≤ 16790144 }
-    ensures { (result ≡ Err CutFault.Memory) ⊎ (derivation_result N.rational result
-        ≡ unless (rounding_fault columns.now (sums_meant N.rational sums.now.sums)) (Ok (rounded_cut columns.now (sums_meant N.rational sums.now.sums)))) }
-{
-    let terms = rounded_terms(alloc, sums, columns)?;
-    match sums.right() {
-        Ok(sum) => Ok(CutRow {
-            terms: Listed::of(terms),
-            right: rounded_down(sum),
-        }),
-        Err(overflow) => Err(CutFault::Overflow(overflow)),
-    }
-}
-
-/// The terms of the rounded sums of the shares, or the first of these sums that does not fit.
-fn rounded_terms<N: Exact>(
-    alloc: Global,
-    sums: &NamedSums<N>,
-    columns: &[ColumnName],
-) -> Result<Vec<CutTerm<N>>, CutFault<N>>
-    requires columns { length columns.now ≡ length sums.now.sums.columns }
-    requires few { length columns.now ≤ 16790144 }
-    ensures { MatchResult result
-        (λ v. (first_below (length columns.now) (share_fault_at columns.now (sums_meant N.rational sums.now.sums)) ≡ None)
-        × (map (cut_term_value N.rational) v.items ≡ rounded_sums (sums_meant N.rational sums.now.sums) 0 columns.now))
-        (λ e. (e ≡ CutFault.Memory)
-        ⊎ (first_below (length columns.now) (share_fault_at columns.now (sums_meant N.rational sums.now.sums)) ≡ Some (cut_fault_value N.rational e))) }
-{
-    let mut terms = Vec::new(alloc);
-    for (j, column) in columns.iter().enumerate() {
-        push_rounded(&mut terms, sums, *column, j as u32)?;
-    }
-    Ok(terms)
-}
-
 /// Adds the term of the rounded sum of a column, if it is a share, or tells that its sum does not fit.
-fn push_rounded<N: Exact>(
+fn push_share<N: Exact>(
     terms: &mut Vec<CutTerm<N>>,
     sums: &NamedSums<N>,
     column: ColumnName,

@@ -1,13 +1,14 @@
 //! The caps of the tolls: what no toll needs to exceed.
 
-ghost use Rattle.std.specs.Prelude.{◌≡◌, ◌<◌, max, fold, map, flat_map, IfOk};
-ghost use Rattle.npp_net.specs.Network.{IsNetwork, toll_count};
-ghost use Rattle.npp_cover.specs.PathValue.{path_value};
+ghost use Rattle.std.specs.Prelude.{◌≡◌, ◌≢◌, ◌<◌, ◌≤◌, ◌==◌, ℕ, max, fold, map, length, slice_index, IfOk, if◌then◌else◌};
+ghost use Rattle.std.specs.Int.{bit_at};
+ghost use Rattle.npp_net.specs.Network.{IsNetwork, toll_count, ceiling_of};
+ghost use Rattle.npp_cover.specs.Caps.{within_ceiling};
 ghost use Rattle.npp_rows.specs.Lowering.{CanBeLowered};
-ghost use Rattle.npp_rows.specs.Caps.{toll_gap, greatest_gap, toll_cap, toll_caps, AreCaps};
+ghost use Rattle.npp_rows.specs.Caps.{toll_gap, greatest_gap, toll_caps, AreCaps};
 
-use npp_cover::{Cover, UsefulPath};
-use npp_net::{Instance, Memory, TollId};
+use npp_cover::Cover;
+use npp_net::{Instance, Memory, TollId, TollSet};
 use std::alloc::Global;
 
 /// The cap of each toll.
@@ -21,59 +22,72 @@ pub fn caps(alloc: Global, instance: &Instance, covers: &[Cover]) -> Result<Vec<
     ensures limits { IsNetwork instance.now }
     ensures lowered { CanBeLowered instance.now covers.now }
 {
+    let gaps = greatest_gaps(alloc, instance.tolls(), covers)?;
     let mut caps = Vec::new(alloc);
     for toll in 0..instance.tolls() {
-        caps.push(cap_of(instance, covers, TollId(toll)))?;
+        caps.push(capped(instance, TollId(toll), gaps[toll as usize]))?;
     }
     Ok(caps)
 }
 
-/// The cap of a toll.
-fn cap_of(instance: &Instance, covers: &[Cover], toll: TollId) -> u64
-    requires toll { toll.0 < toll_count instance.now.arcs }
-    requires small { toll.0 < 128 }
-    ensures { result ≡ toll_cap instance.now covers.now toll.0 }
+/// A gap of a toll, and at most the ceiling of its arc.
+fn capped(instance: &Instance, toll: TollId, gap: u64) -> u64
+    requires { toll.0 < toll_count instance.now.arcs }
+    ensures { result ≡ within_ceiling (ceiling_of instance.now.arcs toll.0) gap }
 {
-    let gap = greatest_gap(covers, toll);
     match instance.ceiling(toll) {
         Some(ceiling) => gap.min(u64::from(ceiling)),
         None => gap,
     }
 }
 
-/// The most by which a path with the toll costs less than the toll-free path of its commodity.
-fn greatest_gap(covers: &[Cover], toll: TollId) -> u64
-    requires { toll.0 < 128 }
-    ensures { result ≡ greatest_gap covers.now toll.0 }
+/// For each toll the most by which a path with it costs less than the toll-free path of its commodity. It takes the time of
+/// the tolls of each path.
+fn greatest_gaps(alloc: Global, tolls: u32, covers: &[Cover]) -> Result<Vec<u64>, Memory>
+    requires { tolls ≤ 128 }
+    ensures size { IfOk result (λ v. length v.items ≡ tolls) }
+    ensures gaps { IfOk result (λ v. (a : ℕ) → a < tolls → slice_index v.items a ≡ greatest_gap covers.now a) }
 {
-    let mut most = 0;
+    let mut gaps = vec![in alloc; 0; tolls as usize]?;
     for cover in covers {
-        most = greater_gap(most, cover, toll);
+        raise_by_paths(gaps.as_mut_slice(), cover);
     }
-    most
+    Ok(gaps)
 }
 
-/// The greater of a number and of what paths of a cover with the toll cost less than its toll-free path.
-fn greater_gap(most: u64, cover: &Cover, toll: TollId) -> u64
-    requires { toll.0 < 128 }
-    ensures { result ≡ fold max most (map (toll_gap toll.0 cover.now.free) cover.now.paths) }
+/// Raises the gaps of the tolls to what paths of a cover with them cost less than its toll-free path.
+fn raise_by_paths(gaps: &mut [u64], cover: &Cover)
+    requires { length gaps.old ≤ 128 }
+    ensures size { length gaps.new ≡ length gaps.old }
+    ensures gaps { (a : ℕ) → a < length gaps.old
+        → slice_index gaps.new a ≡ fold max (slice_index gaps.old a) (map (toll_gap a cover.now.free) cover.now.paths) }
 {
     let free = cover.free_cost();
-    let mut greatest = most;
     for path in cover.paths() {
-        greatest = greatest.max(toll_gap(path, toll, free));
+        raise_on(gaps, path.tolls, free.saturating_sub(path.cost));
     }
-    greatest
 }
 
-/// What a path with the toll costs less than the toll-free path, and 0 for a path without it.
-fn toll_gap(path: &UsefulPath, toll: TollId, free: u64) -> u64
-    requires { toll.0 < 128 }
-    ensures { result ≡ toll_gap toll.0 free (path_value path.now) }
+/// Raises the gaps of the tolls of a set to this one.
+fn raise_on(gaps: &mut [u64], set: TollSet, gap: u64)
+    requires { length gaps.old ≤ 128 }
+    ensures size { length gaps.new ≡ length gaps.old }
+    ensures gaps { (a : ℕ) → a < length gaps.old
+        → slice_index gaps.new a ≡ max (slice_index gaps.old a) (if bit_at set a == 1 then gap else 0) }
 {
-    if path.tolls.has(toll) {
-        free.saturating_sub(path.cost)
-    } else {
-        0
+    for toll in set.tolls() {
+        raise_one(gaps, toll, gap);
+    }
+}
+
+/// Raises the gap of a toll to this one.
+fn raise_one(gaps: &mut [u64], toll: TollId, gap: u64)
+    ensures size { length gaps.new ≡ length gaps.old }
+    ensures raised { toll.0 < length gaps.old → slice_index gaps.new toll.0 ≡ max (slice_index gaps.old toll.0) gap }
+    ensures others { (a : ℕ) → a ≢ toll.0 → slice_index gaps.new a ≡ slice_index gaps.old a }
+{
+    let place = toll.0 as usize;
+    if place < gaps.len() {
+        gaps[place] = gaps[place].max(gap);
     }
 }

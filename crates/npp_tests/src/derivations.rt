@@ -5,7 +5,9 @@ use npp_fixtures::{
 };
 use npp_frac::{Exact, Frac32, Frac128, Op, Overflow, print_fraction};
 use npp_net::Listed;
-use npp_rows::{CutFault, CutRow, Derivation, Multiplier, RowName, check_derivation};
+use npp_rows::{
+    CutFault, CutRow, Derivation, Multiplier, PathTable, RelaxationIndex, RowName, check_derivation,
+};
 use std::alloc::Global;
 use std::process::Abort;
 use std::test::Fail;
@@ -403,5 +405,36 @@ fn sums_that_do_not_fit(rt: HostRuntime) -> Result<(), Fail> {
     for (earlier, plan, narrow, wide) in SUMS {
         expect_at_widths(&rt, rt.alloc(), earlier, plan, narrow, wide)?;
     }
+    Ok(())
+}
+
+/// What a derivation gives, with no earlier rows, over an index of all useful paths that is held.
+fn derived_over_index<N: Exact>(alloc: Global, plan: &Plan) -> Result<String, Fail> {
+    let net = instance_of(alloc, THREE_PAIRS)?;
+    let covers = covers_of(alloc, &net)?;
+    let covers = covers.as_slice();
+    let table = PathTable::new(alloc, &net, covers)?;
+    let allowed = table.all_paths(alloc)?;
+    let index = RelaxationIndex::new(alloc, &table, &allowed)?;
+    let earlier = Vec::<CutRow<N>>::new(alloc);
+    let derivation = derivation_of(alloc, plan)?;
+    match index.check_derivation(alloc, &earlier, &derivation) {
+        Ok(row) => row_text(alloc, &row),
+        Err(fault) => fault_text(alloc, fault),
+    }
+}
+
+/// An index that is held gives the rows that are derived without one.
+#[test]
+fn over_an_index(rt: HostRuntime) -> Result<(), Fail> {
+    let alloc = rt.alloc();
+    let conflict = Plan::Conflict(0, 1, 2, 0, &[(FIRST, (1, 1)), (THIRD, (1, 1))]);
+    let apart = derived_over_index::<Frac32>(alloc, &conflict)?;
+    let round = Plan::Round(&[(RowName::One(0), ONE)]);
+    let one = derived_over_index::<Frac32>(alloc, &round)?;
+    assert_eq!(rt;
+        [apart.as_str(), one.as_str()],
+        [APART, "1 x(0,0) 1 x(0,1) <= 1"]
+    );
     Ok(())
 }

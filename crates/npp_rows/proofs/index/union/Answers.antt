@@ -1,5 +1,5 @@
 use Rattle.std.proofs.Common.{◌∙◌}
-use Rattle.npp_rows.proofs.UnionLaws.{union_begins, union_below, union_next, union_ends, union_within}
+use Rattle.npp_rows.proofs.UnionLaws.{union_begins, union_below, union_next}
 use Rattle.npp_rows.proofs.index.union.Goals as goal
 
 pub loop-toll-init : goal.loop-toll-init
