@@ -12,13 +12,14 @@ ghost use Rattle.npp_inverse.specs.Offers.{HasUsefulPaths};
 ghost use Rattle.npp_inverse.specs.Work.{inverse_work};
 ghost use Rattle.npp_inverse.specs.Best.{best_ending, IsProvedBest, IsZeroChoice, LeavesTolls};
 
-use crate::quiet::{Work, work_on};
+use crate::quiet::{Work, work_on_in};
 use crate::refusal::RespondRefusal;
 use crate::reply::reply_to;
 use npp_cover::Cover;
 use npp_frac::Exact;
 use npp_net::{Instance, Memory, Tolls};
 use npp_rows::{Mark, PathTable, Response};
+use npp_simplex::Workspace;
 use std::alloc::Global;
 
 /// What the inverse program of a choice gives at a width.
@@ -49,9 +50,10 @@ pub enum Best<N> {
 /// They are the point of the run of the inverse program. The program is quiet at the width of `N` where its run and the
 /// sums of the check of its multipliers fit and, where it has a point, the reply to its tolls does too. Else it is `Loud`
 /// with the mark of the first of these that fails; it is never `Loud(Large)`. The choice of path 0 of each commodity always
-/// has tolls, since zero tolls will do.
-pub fn best_tolls_for<N: Exact>(
+/// has tolls, since zero tolls will do. The run takes its memory from the workspace and leaves it there.
+pub fn best_tolls_in<N: Exact>(
     alloc: Global,
+    workspace: &mut Workspace<N>,
     table: &PathTable,
     choice: &[u32],
 ) -> Result<Best<N>, Memory>
@@ -62,7 +64,7 @@ pub fn best_tolls_for<N: Exact>(
     ensures zero_choice { (net : Network) → IsModelOf net table.now → IsZeroChoice choice.now → IfOk result LeavesTolls }
 {
     let program = table.inverse(alloc, choice)?;
-    match work_on(alloc, &program)? {
+    match work_on_in(alloc, workspace, &program)? {
         Work::Solved { x, y, value } => match reply_to(alloc, table, &x) {
             Ok(response) => Ok(Best::Found {
                 tolls: Tolls::of(x),
@@ -78,7 +80,24 @@ pub fn best_tolls_for<N: Exact>(
     }
 }
 
-/// The best tolls of a choice, which names one useful path for each commodity: see [`best_tolls_for`].
+/// The best tolls of a choice, which names one useful path for each commodity, in a workspace of their own: see
+/// [`best_tolls_in`].
+pub fn best_tolls_for<N: Exact>(
+    alloc: Global,
+    table: &PathTable,
+    choice: &[u32],
+) -> Result<Best<N>, Memory>
+    requires choice { IsChoice table.now choice.now }
+    requires useful { HasUsefulPaths table.now }
+    ensures work { IfOk result (λ b. best_ending N.rational b ≡ inverse_work (limit_of N.WIDTH) table.now choice.now) }
+    ensures proved { IfOk result (λ b. IsProvedBest N.rational table.now choice.now b) }
+    ensures zero_choice { (net : Network) → IsModelOf net table.now → IsZeroChoice choice.now → IfOk result LeavesTolls }
+{
+    let mut workspace = Workspace::new(alloc);
+    best_tolls_in(alloc, &mut workspace, table, choice)
+}
+
+/// The best tolls of a choice, which names one useful path for each commodity: see [`best_tolls_in`].
 ///
 /// The covers are those of the instance, one for each commodity in order.
 pub fn best_tolls<N: Exact>(

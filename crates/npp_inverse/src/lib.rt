@@ -7,8 +7,9 @@ mod quiet;
 mod refusal;
 mod reply;
 
-pub use best::{Best, best_tolls, best_tolls_for};
+pub use best::{Best, best_tolls, best_tolls_for, best_tolls_in};
 pub use npp_rows::{Mark, Response, Step};
-pub use quiet::{Work, step_of, work_on};
+pub use npp_simplex::Workspace;
+pub use quiet::{Work, step_of, work_on, work_on_in};
 pub use refusal::RespondRefusal;
 pub use reply::{reply_to, respond};

@@ -15,7 +15,7 @@ use npp_frac::Exact;
 use npp_lp::{Program, check_dual, check_farkas};
 use npp_net::Memory;
 use npp_rows::{Mark, Step};
-use npp_simplex::{Answer, solve};
+use npp_simplex::{Answer, Workspace, solve_in};
 use std::alloc::Global;
 
 /// How many pivots a run may have.
@@ -106,15 +106,30 @@ fn judge<N: Exact>(program: &Program<N>, answer: Answer<N>) -> Work<N>
 /// The work on a program that has no ray: its run, and the sums of the check of its answer.
 ///
 /// A program is quiet at the width of `N` where each number of the run fits, there are at most 100,000 pivots, and the
-/// sums of the check of the multipliers fit. Else it has the mark of the first of these that fails.
+/// sums of the check of the multipliers fit. Else it has the mark of the first of these that fails. The run takes its memory
+/// from the workspace and leaves it there.
 #[tactic(auto, unfolding(crate::specs::Work::program_work))]
+pub fn work_on_in<N: Exact>(
+    alloc: Global,
+    workspace: &mut Workspace<N>,
+    program: &Program<N>,
+) -> Result<Work<N>, Memory>
+    requires bounded { (d : List Rational) → IsRay (linear_program N.rational program.now) d → ⊥ }
+    ensures ending { IfOk result (λ w. ending_of N.rational w ≡ program_work (limit_of N.WIDTH) (linear_program N.rational program.now)) }
+    ensures proved { IfOk result (λ w. IsProvedEnding (linear_program N.rational program.now) (ending_of N.rational w)) }
+{
+    match solve_in(alloc, workspace, program, PIVOTS) {
+        Ok(answer) => Ok(judge(program, answer)),
+        Err(_) => Err(Memory),
+    }
+}
+
+/// The work on a program that has no ray, in a workspace of its own: see [`work_on_in`].
 pub fn work_on<N: Exact>(alloc: Global, program: &Program<N>) -> Result<Work<N>, Memory>
     requires bounded { (d : List Rational) → IsRay (linear_program N.rational program.now) d → ⊥ }
     ensures ending { IfOk result (λ w. ending_of N.rational w ≡ program_work (limit_of N.WIDTH) (linear_program N.rational program.now)) }
     ensures proved { IfOk result (λ w. IsProvedEnding (linear_program N.rational program.now) (ending_of N.rational w)) }
 {
-    match solve(alloc, program, PIVOTS) {
-        Ok(answer) => Ok(judge(program, answer)),
-        Err(_) => Err(Memory),
-    }
+    let mut workspace = Workspace::new(alloc);
+    work_on_in(alloc, &mut workspace, program)
 }

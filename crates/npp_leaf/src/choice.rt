@@ -13,7 +13,7 @@ use crate::family::choice_rows;
 use crate::positive::positive_multipliers;
 use crate::work::LeafWork;
 use npp_frac::Exact;
-use npp_inverse::{Best, best_tolls_for};
+use npp_inverse::{Best, Workspace, best_tolls_in};
 use npp_net::{Listed, Memory};
 use npp_rows::PathTable;
 use npp_tree::{Bound, Evidence};
@@ -22,6 +22,7 @@ use std::alloc::Global;
 /// What the work on a full choice finds.
 pub(crate) fn choice_work<N: Exact>(
     alloc: Global,
+    workspace: &mut Workspace<N>,
     table: &PathTable,
     choice: &[u32],
 ) -> Result<LeafWork<N>, Memory>
@@ -29,7 +30,7 @@ pub(crate) fn choice_work<N: Exact>(
     requires useful { HasUsefulPaths table.now }
     ensures { IfOk result (λ w. found_value N.rational w ≡ choice_work (limit_of N.WIDTH) table.now choice.now) }
 {
-    let best = best_tolls_for(alloc, table, choice)?;
+    let best = best_tolls_in(alloc, workspace, table, choice)?;
     found_by(alloc, table, choice, best)
 }
 

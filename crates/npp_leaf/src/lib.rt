@@ -9,5 +9,6 @@ mod positive;
 mod relaxed;
 mod work;
 
-pub use node::{evidence, evidence_for};
+pub use node::{evidence, evidence_for, evidence_in};
+pub use npp_inverse::Workspace;
 pub use work::LeafWork;

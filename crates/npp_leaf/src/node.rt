@@ -23,6 +23,7 @@ use crate::relaxed::family_work;
 use crate::work::LeafWork;
 use npp_cover::Cover;
 use npp_frac::Exact;
+use npp_inverse::Workspace;
 use npp_net::{Instance, Memory};
 use npp_rows::{Allowed, CutRow, PathTable, RelaxationIndex, first_choice, is_full};
 use std::alloc::Global;
@@ -35,9 +36,11 @@ use std::alloc::Global;
 /// evidence is the mark of what does not fit first, and where a relaxation has over 1,000,000 rows times columns, `Large`.
 ///
 /// The value of Dual and Inverse is the optimum, and that of Farkas and NoInverse is Empty. The terms of each cut name useful
-/// paths, by rising commodity and path. The table is made once for all nodes of an instance; [`evidence`] makes its own.
-pub fn evidence_for<'a, N: Exact>(
+/// paths, by rising commodity and path. The table and the workspace, which keeps the memory of the runs, are made once for
+/// all nodes of an instance; [`evidence`] makes its own.
+pub fn evidence_in<'a, N: Exact>(
     alloc: Global,
+    workspace: &mut Workspace<N>,
     table: &'a PathTable<'a>,
     allowed: &'a Allowed,
     cuts: &[CutRow<N>],
@@ -60,13 +63,39 @@ pub fn evidence_for<'a, N: Exact>(
     let parts = allowed.parts.entries();
     if is_full(parts) {
         let choice = first_choice(alloc, parts)?;
-        return choice_work(alloc, table, &choice);
+        return choice_work(alloc, workspace, table, &choice);
     }
     let index = RelaxationIndex::new(alloc, table, allowed)?;
-    family_work(alloc, &index, cuts)
+    family_work(alloc, workspace, &index, cuts)
 }
 
-/// The evidence of a node of an instance: see [`evidence_for`].
+/// The evidence of a node that allows these paths, in a workspace of its own: see [`evidence_in`].
+pub fn evidence_for<'a, N: Exact>(
+    alloc: Global,
+    table: &'a PathTable<'a>,
+    allowed: &'a Allowed,
+    cuts: &[CutRow<N>],
+) -> Result<LeafWork<N>, Memory>
+    requires useful { HasUsefulPaths table.now }
+    requires allowed { IsAllowed table.now allowed.now.parts }
+    requires cuts { All (λ c. IsCut table.now (cut_value N.rational c)) cuts.now }
+    requires few_cuts { length cuts.now ≤ 16777216 }
+    ensures work { IfOk result (λ w. found_value N.rational w
+        ≡ leaf_work (limit_of N.WIDTH) table.now allowed.now.parts (map (cut_value N.rational) cuts.now)) }
+
+    // The checker takes it as a block of a node with these paths.
+    ensures passes { IfOk result (λ w. Passes (limit_of N.WIDTH)
+        (node_program table.now (map (cut_value N.rational) cuts.now) allowed.now.parts)
+        (evidence_value N.rational w.evidence) (option_map bound_value w.value)) }
+    ensures optimum { IfOk result (λ w. IfSome (option_map bound_value w.value)
+        (IsOptimal (numbered (node_program table.now (map (cut_value N.rational) cuts.now) allowed.now.parts)))) }
+    ensures tolls { IfOk result (λ w. FindsTolls table.now (found_value N.rational w)) }
+{
+    let mut workspace = Workspace::new(alloc);
+    evidence_in(alloc, &mut workspace, table, allowed, cuts)
+}
+
+/// The evidence of a node of an instance: see [`evidence_in`].
 ///
 /// Where every outcome meets the cuts, no outcome in which the commodities take allowed paths at tolls up to the caps earns
 /// more than the value, and where the value is Empty there is no such outcome. The covers are those of the instance, one

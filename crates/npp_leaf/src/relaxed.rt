@@ -15,7 +15,7 @@ use crate::point::point_of;
 use crate::positive::positive_multipliers;
 use crate::work::LeafWork;
 use npp_frac::Exact;
-use npp_inverse::{Work, work_on};
+use npp_inverse::{Work, Workspace, work_on_in};
 use npp_net::{Listed, Memory};
 use npp_rows::{CutRow, Mark, RelaxRefusal, RelaxationIndex};
 use npp_tree::{Bound, Evidence};
@@ -24,6 +24,7 @@ use std::alloc::Global;
 /// What the work on the relaxation of a family with some cuts finds.
 pub(crate) fn family_work<N: Exact>(
     alloc: Global,
+    workspace: &mut Workspace<N>,
     index: &RelaxationIndex,
     cuts: &[CutRow<N>],
 ) -> Result<LeafWork<N>, Memory>
@@ -37,7 +38,7 @@ pub(crate) fn family_work<N: Exact>(
         Err(RelaxRefusal::Large) => return Ok(LeafWork::marked(Mark::Large)),
         Err(RelaxRefusal::Memory) => return Err(Memory),
     };
-    let work = work_on(alloc, &program)?;
+    let work = work_on_in(alloc, workspace, &program)?;
     found_by(alloc, index, cuts, work)
 }
 

@@ -5,7 +5,7 @@ ghost use Rattle.std.specs.Prelude.{◌≡◌, [], length, OnOk};
 use crate::numbers::{Number, ratio, whole};
 use npp_frac::{Exact, Frac32, Frac64, Frac128, Memory, print_fraction};
 use npp_lp::{Program, ProgramBuilder};
-use npp_simplex::{Answer, solve};
+use npp_simplex::{Answer, Workspace, solve, solve_in};
 use std::alloc::Global;
 use std::test::Fail;
 
@@ -99,6 +99,19 @@ fn answer<N: Exact>(alloc: Global, question: Question) -> Result<String, Memory>
     let (rows, goal, cap, _) = question;
     match program::<N>(alloc, rows, goal)? {
         Some(program) => text_of(alloc, &solve(alloc, &program, cap)?),
+        None => Err(Memory),
+    }
+}
+
+/// What the run answers in a workspace, with at most so many pivots.
+fn answer_in<N: Exact>(
+    alloc: Global,
+    workspace: &mut Workspace<N>,
+    question: Question,
+) -> Result<String, Memory> {
+    let (rows, goal, cap, _) = question;
+    match program::<N>(alloc, rows, goal)? {
+        Some(program) => text_of(alloc, &solve_in(alloc, workspace, &program, cap)?),
         None => Err(Memory),
     }
 }
@@ -232,6 +245,17 @@ const LONG: &[Question] = &[
 fn programs_are_solved(rt: HostRuntime) -> Result<(), Fail> {
     for question in WIDE {
         let got = answer::<Frac64>(rt.alloc(), *question)?;
+        assert_eq!(rt; got.as_str(), question.3);
+    }
+    Ok(())
+}
+
+// Programs of several sizes and with every kind of end, one after the other.
+#[test]
+fn runs_share_a_workspace(rt: HostRuntime) -> Result<(), Fail> {
+    let mut workspace = Workspace::new(rt.alloc());
+    for question in WIDE {
+        let got = answer_in::<Frac64>(rt.alloc(), &mut workspace, *question)?;
         assert_eq!(rt; got.as_str(), question.3);
     }
     Ok(())

@@ -22,6 +22,7 @@ use crate::state::State;
 use crate::waiting::WaitingList;
 use npp_cover::Cover;
 use npp_frac::{Exact, Frac128};
+use npp_leaf::Workspace;
 use npp_net::{Instance, Listed, Memory};
 use npp_rows::{Allowed, PathTable};
 use npp_tree::{Bound, GrowTree};
@@ -53,7 +54,7 @@ fn start<N: Exact>(setting: &Setting) -> Result<State<N>, Memory>
     Ok(state)
 }
 
-/// Turns until the budget is spent or no node waits.
+/// Turns until the budget is spent or no node waits. All of them share the memory of their runs.
 pub(crate) fn grow<N: Exact, P: Picker>(
     setting: &Setting,
     picker: &mut P,
@@ -65,8 +66,9 @@ pub(crate) fn grow<N: Exact, P: Picker>(
         ⊎ NoneIsLive (nodes_of (problem_in (limit_of N.WIDTH) setting.now) (task_in setting.now) (growth_of N.rational s)) (value_of_wide s.lower)) }
 {
     let mut state = start(setting)?;
+    let mut workspace = Workspace::new(setting.alloc);
     for _turn in 0..setting.budget {
-        if !state.turn(setting, picker)? {
+        if !state.turn(setting, &mut workspace, picker)? {
             return Ok(state);
         }
     }

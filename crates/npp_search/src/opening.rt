@@ -15,7 +15,7 @@ use crate::setting::Setting;
 use crate::state::State;
 use crate::waiting::Waiting;
 use npp_frac::Exact;
-use npp_leaf::{LeafWork, evidence_for};
+use npp_leaf::{LeafWork, Workspace, evidence_in};
 use npp_net::{Listed, Memory};
 use npp_tree::{Bound, Point};
 
@@ -42,10 +42,11 @@ fn halves<N: Exact>(point: Option<Point<N>>) -> (Option<Listed<N>>, Option<Liste
 
 impl<N: Exact> State<N> {
     /// Opens a node: finds its evidence, takes what it offers, and settles it. Answers its bound, and the shares of its
-    /// point if there is one.
+    /// point if there is one. The run takes its memory from the workspace.
     pub(crate) fn open_node(
         &mut self,
         setting: &Setting,
+        workspace: &mut Workspace<N>,
         node: &Waiting,
     ) -> Result<(Bound, Option<Listed<Listed<N>>>), Memory>
         requires setting { IsSetting setting.now }
@@ -61,7 +62,13 @@ impl<N: Exact> State<N> {
             value,
             point,
             best,
-        } = evidence_for(setting.alloc, &setting.table, &node.allowed, &no_cuts)?;
+        } = evidence_in(
+            setting.alloc,
+            workspace,
+            &setting.table,
+            &node.allowed,
+            &no_cuts,
+        )?;
         let (tolls, shares) = halves(point);
         let offered = offer(setting, best, tolls)?;
         self.raise(offered);

@@ -10,13 +10,16 @@ use crate::picker::Picker;
 use crate::setting::Setting;
 use crate::state::State;
 use npp_frac::Exact;
+use npp_leaf::Workspace;
 use npp_net::Memory;
 
 impl<N: Exact> State<N> {
-    /// Opens the node that the picker names, if one waits, and answers whether there was one.
+    /// Opens the node that the picker names, if one waits, and answers whether there was one. The run takes its memory from
+    /// the workspace.
     pub(crate) fn turn<P: Picker>(
         &mut self,
         setting: &Setting,
+        workspace: &mut Workspace<N>,
         picker: &mut P,
     ) -> Result<bool, Memory>
         requires setting { IsSetting setting.now }
@@ -33,7 +36,7 @@ impl<N: Exact> State<N> {
             return Ok(false);
         };
         let before = self.lower;
-        let (bound, shares) = self.open_node(setting, &node)?;
+        let (bound, shares) = self.open_node(setting, workspace, &node)?;
         self.branch(setting, node, bound, shares)?;
         self.drop_dead(before);
         Ok(true)

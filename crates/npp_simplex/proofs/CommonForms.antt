@@ -1,6 +1,6 @@
 -- Whole numbers over one denominator: what quotients, products and differences of them are, and that they fit.
 use Rattle.std.specs.Prelude.{int_div}
-use Rattle.std.proofs.Common.{◌≡◌, ◌≢◌, ℕ, zero, suc, ◌+◌, ◌*◌, ◌/◌, ◌%◌, ◌^◌, ◌<◌, ◌≤◌, List, [], ◌∷◌, ℤ, pos, negsuc, ◌-ℤ◌, ◌*ℤ◌, neg_ℤ, nat_abs, true, arith, ap, ap₂, sym, ◌∙◌, refl, lt_of_le_of_lt}
+use Rattle.std.proofs.Common.{◌≡◌, ◌≢◌, ℕ, zero, suc, ◌+◌, ◌*◌, ◌/◌, ◌%◌, ◌<◌, ◌≤◌, List, [], ◌∷◌, ℤ, pos, negsuc, ◌-ℤ◌, ◌*ℤ◌, neg_ℤ, nat_abs, true, arith, ap, ap₂, sym, ◌∙◌, refl, lt_of_le_of_lt}
 use Rattle.std.proofs.Math.Nat.{mul-pos}
 use Rattle.std.proofs.lemmas.Int.{ints, unsigned_abs-mul}
 use Rattle.std.proofs.lemmas.Nat.Gcd.{dvd_of_mod-eq-zero, mod-eq-zero_of_dvd, dvd_trans}
@@ -169,8 +169,8 @@ factor_at_most zero g d e h = absurd (omega arith)
 factor_at_most (suc q) g d e h = omega arith
 
 -- a factor is at most what it divides
-pub factor_below : (g d : ℕ) → 0 < g → 0 < d → d % g ≡ 0 → d < 2 ^ 63 → g < 2 ^ 63
-factor_below g d h l e below = let part = whole_part d g h e in lt_of_le_of_lt (factor_at_most (d / g) g d part l) below
+pub factor_below : (m g d : ℕ) → 0 < g → 0 < d → d % g ≡ 0 → d < m → g < m
+factor_below m g d h l e below = let part = whole_part d g h e in lt_of_le_of_lt (factor_at_most (d / g) g d part l) below
 
 -- a factor of a factor
 pub factor_through : (n f g : ℕ) → n % f ≡ 0 → f % g ≡ 0 → n % g ≡ 0

@@ -16,11 +16,14 @@ pub mod Starting
 pub mod Comparing
 pub mod Refining
 pub mod Passing
+pub mod RowPairs
+pub mod WordPairs
 pub mod Nonzero
 pub mod WordRows
 pub mod CommonForms
 pub mod LineForms
 pub mod WordForms
+pub mod LongNumbers
 pub mod LinePivots
 pub mod Eliminating
 pub mod Pivoting

@@ -1,5 +1,5 @@
 -- A row of the tableau and the two forms in which it may lie in memory.
-use Rattle.std.proofs.Common.{◌≡◌, ◌≢◌, ℕ, ◌+◌, ◌*◌, ◌-◌, ◌^◌, ◌<◌, ◌≤◌, List, map, length, Bool, true, false, cond, ℤ, pos, ◌-ℤ◌, ◌*ℤ◌, ◌<ℤ◌, ◌≤ℤ◌, nat_abs, not, arith, ap, ap₂, sym, ◌∙◌, refl, subst, lt_of_le_of_lt, lt_of_lt_of_le, inl, inr}
+use Rattle.std.proofs.Common.{◌≡◌, ◌≢◌, ℕ, ◌+◌, ◌*◌, ◌-◌, ◌^◌, ◌<◌, ◌≤◌, List, length, Bool, true, false, cond, ℤ, pos, ◌-ℤ◌, ◌*ℤ◌, ◌<ℤ◌, ◌≤ℤ◌, nat_abs, not, arith, ap, ap₂, sym, ◌∙◌, refl, subst, lt_of_le_of_lt, lt_of_lt_of_le, inl, inr}
 use Rattle.std.specs.List.{range_with_len}
 use Rattle.std.specs.Ordering.{int_eq}
 use Rattle.std.proofs.Math.Nat.{mul-le-mul, mul-pos}
@@ -12,14 +12,13 @@ use Rattle.npp_frac.specs.Order.{whole_injective, is_less_of_<ℚ, is_less_of_�
 use Rattle.npp_frac.specs.Sign.{num_of_zero, zero_of_num}
 use Rattle.npp_frac.specs.Division.{size_of_nonzero}
 use Rattle.npp_frac.specs.Fits.{IsWidth, FitsBelow, limit_of}
-use Rattle.npp_frac.specs.FitsLaws.{limit_at_least}
+use Rattle.npp_frac.specs.FitsLaws.{limit_at_least, limit_at_most}
 use Rattle.npp_frac.specs.FitsResults.{ratio_below}
 use Rattle.npp_lp.specs.Programs.{at}
 use Rattle.npp_simplex.specs.Places.{fits_less_product}
 use Rattle.npp_simplex.specs.Steps.{is_nonzero, nonzero_columns}
 use Rattle.npp_simplex.specs.CommonForm.{number_in, over, line_of, turned, word_limit, AreWithin, IsCommonForm, IsLine}
 use Rattle.npp_simplex.proofs.CommonForms.{over_at, ratio_scaled, zero_of_ratio, ratio_of_zero, common_quotient_is, turned_size, size_less, less_form, less_fits}
-use Rattle.npp_simplex.proofs.Grids.{at_fits}
 use Rattle.npp_simplex.proofs.Agreeing.{filter_agrees, each_range}
 
 -- ---- the limit of words
@@ -49,21 +48,21 @@ limit_other w h apart = elim h [
 
 -- ---- the numbers of a row in each form
 
-module _ {N : Type 0} (v : N → Rational) (is_whole : Bool) (d : ℕ) (xs : List ℤ) (ns : List N) (line : List Rational) (view : line_of v is_whole d xs ns ≡ line) where
+module _ (is_whole : Bool) (d : ℕ) (xs : List ℤ) (others line : List Rational) (view : line_of is_whole d xs others ≡ line) where
   pub whole_is : is_whole ≡ true → over d xs ≡ line
-  whole_is e = sym (ap (λ b. cond b (over d xs) (map v ns)) e) ∙ view
+  whole_is e = sym (ap (λ b. cond b (over d xs) others) e) ∙ view
 
-  pub fractions_are : is_whole ≡ false → map v ns ≡ line
-  fractions_are e = sym (ap (λ b. cond b (over d xs) (map v ns)) e) ∙ view
+  pub others_are : is_whole ≡ false → others ≡ line
+  others_are e = sym (ap (λ b. cond b (over d xs) others) e) ∙ view
 
   pub whole_at : is_whole ≡ true → 0 < d → (j : ℕ) → at line j ≡ ratio (number_in xs j) d
   whole_at e h j = ap (λ l. at l j) (sym (whole_is e)) ∙ over_at d xs j h
 
-  either_length : (b : Bool) → is_whole ≡ b → length xs ≡ length ns → length line ≡ length ns
-  either_length true e same = ap length (sym (whole_is e)) ∙ length-map xs (λ x. ratio x d) ∙ same
-  either_length false e same = ap length (sym (fractions_are e)) ∙ length-map ns v
+  either_length : (b : Bool) → is_whole ≡ b → (is_whole ≡ true → length xs ≡ length others) → length line ≡ length others
+  either_length true e same = ap length (sym (whole_is e)) ∙ length-map xs (λ x. ratio x d) ∙ same e
+  either_length false e same = ap length (sym (others_are e))
 
-  pub line_length : length xs ≡ length ns → length line ≡ length ns
+  pub line_length : (is_whole ≡ true → length xs ≡ length others) → length line ≡ length others
   line_length same = either_length is_whole refl same
 
 -- ---- whole numbers of a row
@@ -88,24 +87,50 @@ module _ (w d b : ℕ) (xs : List ℤ) (form : IsCommonForm (word_limit w) d b x
   within_words j = let h = number_in_word j in omega arith
 
 -- each number fits the width
-module _ {N : Type 0} (v : N → Rational) (w : ℕ) (fits : (x : N) → FitsBelow (limit_of w) (v x)) (is_whole : Bool) (d b : ℕ) (xs : List ℤ) (ns : List N) (line : List Rational)
-    (view : line_of v is_whole d xs ns ≡ line) (inv : IsLine w is_whole d b xs (length ns)) where
+module _ (w limit : ℕ) (narrow : limit ≤ limit_of w) (is_whole : Bool) (d b : ℕ) (xs : List ℤ) (others line : List Rational)
+    (view : line_of is_whole d xs others ≡ line) (inv : is_whole ≡ true → IsCommonForm limit d b xs) (fits : (j : ℕ) → j < length others → FitsBelow (limit_of w) (at others j)) where
   fits_in : (c : Bool) → is_whole ≡ c → (j : ℕ) → j < length line → FitsBelow (limit_of w) (at line j)
   fits_in true e j l =
-      let form = inv.form e in
-      subst (FitsBelow (limit_of w)) (sym (whole_at v is_whole d xs ns line view e form.above j))
-      (ratio_below (limit_of w) (number_in xs j) d form.above (number_fits w d b xs form j) (denominator_fits w d b xs form))
+      let form = inv e in
+      subst (FitsBelow (limit_of w)) (sym (whole_at is_whole d xs others line view e form.above j))
+      (ratio_below (limit_of w) (number_in xs j) d form.above (lt_of_lt_of_le (lt_of_le_of_lt (form.sizes j) form.bound) narrow) (lt_of_lt_of_le form.denominator narrow))
   fits_in false e j l =
-      let is = fractions_are v is_whole d xs ns line view e in
-      subst (λ z. FitsBelow (limit_of w) (at z j)) is (at_fits v (limit_of w) fits ns j (omega (arith, l, line_length v is_whole d xs ns line view inv.room)))
+      let is = others_are is_whole d xs others line view e in
+      subst (λ z. FitsBelow (limit_of w) (at z j)) is (fits j (omega (arith, l, ap length is)))
 
   pub line_fits : (j : ℕ) → j < length line → FitsBelow (limit_of w) (at line j)
   line_fits = fits_in is_whole refl
 
+-- ---- long words, where the limit is that of the width
+
+pub same_limit : (w : ℕ) → limit_of w ≤ limit_of w
+same_limit w = omega arith
+
+pub wider_form : (w d b : ℕ) (xs : List ℤ) → IsCommonForm (word_limit w) d b xs → IsCommonForm (limit_of w) d b xs
+wider_form w d b xs form = record {
+  above = form.above;
+  denominator = lt_of_lt_of_le form.denominator (below_width w);
+  bound = lt_of_lt_of_le form.bound (below_width w);
+  sizes = form.sizes;
+}
+
+module _ (w d b : ℕ) (xs : List ℤ) (wide : IsWidth w) (form : IsCommonForm (limit_of w) d b xs) where
+  pub long_fits : (j : ℕ) → nat_abs (number_in xs j) < limit_of w
+  long_fits j = lt_of_le_of_lt (form.sizes j) form.bound
+
+  pub number_in_long : (j : ℕ) → nat_abs (number_in xs j) < 2 ^ 127
+  number_in_long j = lt_of_lt_of_le (long_fits j) (limit_at_most w wide)
+
+  pub denominator_in_long : d < 2 ^ 127
+  denominator_in_long = lt_of_lt_of_le form.denominator (limit_at_most w wide)
+
+  pub within_long : AreWithin (2 ^ 127 - 1) xs
+  within_long j = let h = number_in_long j in omega arith
+
 -- ---- a row whose whole numbers were shortened
 
-pub shortened : (w : ℕ) (is_whole : Bool) (d b n : ℕ) (xs : List ℤ) → IsLine w is_whole d b xs n → is_whole ≡ true → (e c : ℕ) (ys : List ℤ) → 0 < e → e ≤ d → AreWithin c ys → c ≤ b → length ys ≡ length xs → IsLine w is_whole e c ys n
-shortened w is_whole d b n xs inv whole e c ys above at_most sizes least same =
+pub shortened : (limit : ℕ) (is_whole : Bool) (d b n : ℕ) (xs : List ℤ) → IsLine limit is_whole d b xs n → is_whole ≡ true → (e c : ℕ) (ys : List ℤ) → 0 < e → e ≤ d → AreWithin c ys → c ≤ b → length ys ≡ length xs → IsLine limit is_whole e c ys n
+shortened limit is_whole d b n xs inv whole e c ys above at_most sizes least same =
     let form = inv.form whole in
     record {
       room = same ∙ inv.room;

@@ -1,6 +1,6 @@
 -- Lists of words over one denominator, and the fractions for which they stand.
 use Rattle.std.specs.Prelude.{int_div}
-use Rattle.std.proofs.Common.{w64, FitsSigned, to_z, of_z, to_z-of_z, ◌≡◌, ℕ, ◌*◌, ◌/◌, ◌%◌, ◌-◌, ◌^◌, ◌<◌, ◌≤◌, List, map, length, ℤ, pos, negsuc, neg_ℤ, ◌*ℤ◌, nat_abs, ◌<ℤ◌, ◌≤ℤ◌, arith, ap, ap₂, sym, ◌∙◌, refl, inl, inr, div-le_self}
+use Rattle.std.proofs.Common.{zero, suc, w64, FitsSigned, to_z, of_z, to_z-of_z, ◌≡◌, ℕ, ◌*◌, ◌/◌, ◌%◌, ◌-◌, ◌^◌, ◌<◌, ◌≤◌, List, map, length, ℤ, pos, negsuc, neg_ℤ, ◌*ℤ◌, nat_abs, ◌<ℤ◌, ◌≤ℤ◌, arith, ap, ap₂, sym, ◌∙◌, refl, inl, inr, div-le_self}
 use Rattle.std.specs.Int.{w128}
 use Rattle.std.proofs.lemmas.List.{ext_get_or, length-map, get_or_past}
 use Rattle.std.proofs.lemmas.Bool.{cases_lt}
@@ -28,6 +28,10 @@ over_word q n times d limit is fits whole at_most above long word size below =
     let product : to_z w128 (of_z w128 (to_z w128 (of_z w128 n) *ℤ to_z w128 times)) ≡ n *ℤ pos times = ap (λ t. to_z w128 (of_z w128 t)) (ap₂ ◌*ℤ◌ own by) ∙ to_z-of_z wide in
     let narrow : FitsSigned w64 (n *ℤ pos times) = fits_signed_from_abs w64 (n *ℤ pos times) (omega (arith, below, ap nat_abs product)) in
     over_is q _ times d whole above (ap (λ t. to_z w64 (of_z w64 t)) product ∙ to_z-of_z narrow ∙ ap (λ t. t *ℤ pos times) is)
+
+pub times_at_most : (times part d : ℕ) → 0 < part → times * part ≡ d → times ≤ d
+times_at_most times (suc part) d h e = omega (arith, e)
+times_at_most times zero d h e = absurd (omega arith)
 
 -- words that stand for the numbers of a list
 pub words_written : {N : Type 0} (v : N → Rational) (d : ℕ) (ws : List ℤ) (ns : List N) → 0 < d → length ws ≡ length ns → ((k : ℕ) → k < length ns → ratio (number_in ws k) d ≡ at (map v ns) k) → over d ws ≡ map v ns

@@ -1,8 +1,10 @@
 -- Rows of words that are changed number by number.
-use Rattle.std.proofs.Common.{◌≡◌, ℕ, zero, suc, negsuc, add-one, false, ◌-ℤ◌, ◌*ℤ◌, ◌+◌, ◌*◌, ◌^◌, w64, FitsSigned, to_z, of_z, to_z-of_z, ap₂, ◌<◌, ◌≤◌, List, length, set, get_or, ℤ, pos, nat_abs, arith, ap, sym, ◌∙◌, refl, inl, inr, eq-or-lt_of_le}
-use Rattle.std.proofs.lemmas.List.{get_or_past, get_or_default, get_or-set_same, get_or-set_other, get_or_read, length-set}
+use Rattle.std.proofs.Common.{◌≡◌, ℕ, zero, suc, negsuc, add-one, false, ◌-ℤ◌, ◌*ℤ◌, ◌+◌, ◌*◌, ◌^◌, FitsSigned, to_z, of_z, to_z-of_z, ap₂, ◌<◌, ◌≤◌, List, length, set, get_or, ℤ, pos, nat_abs, arith, ap, sym, ◌∙◌, refl, inl, inr, eq-or-lt_of_le}
+use Rattle.std.proofs.lemmas.List.{ext_get_or, get_or_past, get_or_default, get_or-set_same, get_or-set_other, get_or_read, length-set}
 use Rattle.std.proofs.lemmas.Bool.{cases_lt}
 use Rattle.std.proofs.Math.Nat.{mul-le-mul, eq-zero-or-pos}
+use mir.Syntax.{Width}
+use mir.Val.{hbits}
 use Rattle.std.proofs.lemmas.Int.{ints, unsigned_abs-mul, fits_signed_from_abs}
 use Rattle.npp_frac.specs.Rational.{whole}
 use Rattle.npp_frac.specs.Order.{whole_injective}
@@ -37,6 +39,10 @@ module _ (first now : List ℤ) (new : ℕ → ℤ → ℤ) (i : ℕ) (h : IsCha
     | inr past ↦ h.rest k past ∙ get_or_past first k (pos 0) (omega arith) ∙ sym (keeps k (omega arith)) ∙ ap (new k) (sym (get_or_past first k (pos 0) (omega arith)))
   ]
 
+-- a row that was written over by the numbers of another one
+pub copied : (first now ws : List ℤ) (i : ℕ) → IsChangedBelow first now (λ k x. number_in ws k) i → i ≡ length ws → length first ≡ length ws → now ≡ ws
+copied first now ws i h e same = ext_get_or (pos 0) now ws (h.size ∙ same) (λ k l. h.done k (omega (arith, l, h.size, same, e)))
+
 -- what was read of a row is its number there
 pub word_read : (xs : List ℤ) (k : ℕ) (x : ℤ) → k < length xs → x ≡ get_or xs k x → x ≡ number_in xs k
 word_read xs k x l e = get_or_read xs k x l e (pos 0)
@@ -46,34 +52,39 @@ word_read xs k x l e = get_or_read xs k x l e (pos 0)
 zero_product : (z : ℤ) → pos 0 *ℤ z ≡ pos 0
 zero_product z = omega (arith, ints, unsigned_abs-mul (pos 0) z)
 
-no_product : (f z : ℤ) → nat_abs f ≡ 0 → to_z w64 (of_z w64 (to_z w64 (of_z w64 f) *ℤ to_z w64 (of_z w64 z))) ≡ f *ℤ z
-no_product (pos zero) z e = ap (λ t. to_z w64 (of_z w64 t)) (zero_product (to_z w64 (of_z w64 z))) ∙ sym (zero_product z)
-no_product (pos (suc n)) z e = absurd (omega arith)
-no_product (negsuc n) z e = absurd (omega arith)
+-- words of any width
+module _ (w : Width) where
+  zero_word : 0 < 2 ^ hbits w → to_z w (of_z w (pos 0)) ≡ pos 0
+  zero_word h = to_z-of_z (fits_signed_from_abs w (pos 0) h)
 
--- a product of words, where it fits
-product_word : (f z : ℤ) → FitsSigned w64 f → nat_abs f * nat_abs z < 2 ^ 63 → to_z w64 (of_z w64 (to_z w64 (of_z w64 f) *ℤ to_z w64 (of_z w64 z))) ≡ f *ℤ z
-product_word f z fits small = elim (eq-zero-or-pos (nat_abs f)) [
-  | inl none ↦ no_product f z none
-  | inr some ↦ (
-      let least : 1 * nat_abs z ≤ nat_abs f * nat_abs z = mul-le-mul some (omega arith) in
-      let inner : FitsSigned w64 z = fits_signed_from_abs w64 z (omega arith) in
-      let outer : FitsSigned w64 (f *ℤ z) = fits_signed_from_abs w64 (f *ℤ z) (omega (arith, unsigned_abs-mul f z)) in
-      rw (to_z-of_z fits, to_z-of_z inner, to_z-of_z outer) refl)
-]
+  no_product : (f z : ℤ) → nat_abs f ≡ 0 → 0 < 2 ^ hbits w → to_z w (of_z w (to_z w (of_z w f) *ℤ to_z w (of_z w z))) ≡ f *ℤ z
+  no_product (pos zero) z e h = ap (λ t. to_z w (of_z w t)) (ap (λ t. t *ℤ to_z w (of_z w z)) (zero_word h) ∙ zero_product (to_z w (of_z w z))) ∙ zero_word h ∙ sym (zero_product z)
+  no_product (pos (suc n)) z e h = absurd (omega arith)
+  no_product (negsuc n) z e h = absurd (omega arith)
 
--- a word less a product
-module _ (a f z : ℤ) (fits : FitsSigned w64 f) (small : nat_abs a + nat_abs f * nat_abs z < 2 ^ 63) where
-  pub difference_fits : FitsSigned w64 (to_z w64 (of_z w64 a) -ℤ to_z w64 (of_z w64 (to_z w64 (of_z w64 f) *ℤ to_z w64 (of_z w64 z))))
-  difference_fits =
-      let first : FitsSigned w64 a = fits_signed_from_abs w64 a (omega arith) in
-      let product = product_word f z fits (omega arith) in
-      rw (to_z-of_z first, product) (fits_signed_from_abs w64 (a -ℤ f *ℤ z) (omega (arith, ints, unsigned_abs-mul f z)))
+  -- a product of words, where it fits
+  product_word : (f z : ℤ) → FitsSigned w f → nat_abs f * nat_abs z < 2 ^ hbits w → to_z w (of_z w (to_z w (of_z w f) *ℤ to_z w (of_z w z))) ≡ f *ℤ z
+  product_word f z fits small = elim (eq-zero-or-pos (nat_abs f)) [
+    | inl none ↦ no_product f z none (omega arith)
+    | inr some ↦ (
+        let least : 1 * nat_abs z ≤ nat_abs f * nat_abs z = mul-le-mul some (omega arith) in
+        let inner : FitsSigned w z = fits_signed_from_abs w z (omega arith) in
+        let outer : FitsSigned w (f *ℤ z) = fits_signed_from_abs w (f *ℤ z) (omega (arith, unsigned_abs-mul f z)) in
+        rw (to_z-of_z fits, to_z-of_z inner, to_z-of_z outer) refl)
+  ]
 
-  pub difference_is : to_z w64 (of_z w64 (to_z w64 (of_z w64 a) -ℤ to_z w64 (of_z w64 (to_z w64 (of_z w64 f) *ℤ to_z w64 (of_z w64 z))))) ≡ a -ℤ f *ℤ z
-  difference_is =
-      let first : FitsSigned w64 a = fits_signed_from_abs w64 a (omega arith) in
-      to_z-of_z difference_fits ∙ ap₂ (λ x y. x -ℤ y) (to_z-of_z first) (product_word f z fits (omega arith))
+  -- a word less a product
+  module _ (a f z : ℤ) (fits : FitsSigned w f) (small : nat_abs a + nat_abs f * nat_abs z < 2 ^ hbits w) where
+    pub difference_fits : FitsSigned w (to_z w (of_z w a) -ℤ to_z w (of_z w (to_z w (of_z w f) *ℤ to_z w (of_z w z))))
+    difference_fits =
+        let first : FitsSigned w a = fits_signed_from_abs w a (omega arith) in
+        let product = product_word f z fits (omega arith) in
+        rw (to_z-of_z first, product) (fits_signed_from_abs w (a -ℤ f *ℤ z) (omega (arith, ints, unsigned_abs-mul f z)))
+
+    pub difference_is : to_z w (of_z w (to_z w (of_z w a) -ℤ to_z w (of_z w (to_z w (of_z w f) *ℤ to_z w (of_z w z))))) ≡ a -ℤ f *ℤ z
+    difference_is =
+        let first : FitsSigned w a = fits_signed_from_abs w a (omega arith) in
+        to_z-of_z difference_fits ∙ ap₂ (λ x y. x -ℤ y) (to_z-of_z first) (product_word f z fits (omega arith))
 
 -- ---- a row that loses a multiple of another one, at each column in turn where the other one is not 0
 

@@ -1,4 +1,4 @@
--- Rows of a tableau as whole numbers over one denominator, and as fractions. `value` says what a fraction stands for.
+-- Rows of a tableau as whole numbers over one denominator, and as other numbers.
 use Rattle.std.specs.Prelude.{◌≡◌, ℕ, ◌<◌, ◌≤◌, ◌^◌, min, List, length, map, Bool, true, ℤ, pos, negsuc, neg_ℤ, nat_abs, slice_index_or, if◌then◌else◌}
 use Rattle.npp_frac.specs.Rational.{Rational, ratio}
 use Rattle.npp_frac.specs.Fits.{limit_of}
@@ -11,9 +11,9 @@ number_in xs j = slice_index_or xs j (pos 0)
 abbrev pub over : ℕ → List ℤ → List Rational
 over d xs = map (λ x. ratio x d) xs
 
--- the numbers of a row: whole numbers over the denominator, or fractions
-abbrev pub line_of : {N : Type 0} → (N → Rational) → Bool → ℕ → List ℤ → List N → List Rational
-line_of value is_whole d xs ns = if is_whole then over d xs else map value ns
+-- the numbers of a row: whole numbers over the denominator, or the others
+abbrev pub line_of : Bool → ℕ → List ℤ → List Rational → List Rational
+line_of is_whole d xs others = if is_whole then over d xs else others
 
 -- the size below which whole numbers of a row stay: that of the width, and that of a word
 unfoldable pub word_limit : ℕ → ℕ
@@ -30,10 +30,10 @@ pub record IsCommonForm (limit d b : ℕ) (xs : List ℤ) : Type 0 where
   pub bound : b < limit
   pub sizes : AreWithin b xs
 
--- a row with room for both, whose whole numbers are in form where they are those of the row
-pub record IsLine (w : ℕ) (is_whole : Bool) (d b : ℕ) (xs : List ℤ) (n : ℕ) : Type 0 where
+-- a row of n numbers with room for whole numbers, which are in form where they are those of the row
+pub record IsLine (limit : ℕ) (is_whole : Bool) (d b : ℕ) (xs : List ℤ) (n : ℕ) : Type 0 where
   pub room : length xs ≡ n
-  pub form : is_whole ≡ true → IsCommonForm (word_limit w) d b xs
+  pub form : is_whole ≡ true → IsCommonForm limit d b xs
 
 -- the numerator of a quotient over the size of its divisor
 abbrev pub turned : ℤ → ℤ → ℤ

@@ -6,6 +6,7 @@ pub mod Vectors
 pub mod Run
 pub mod Layout
 pub mod CommonForm
+pub mod RowOrder
 pub mod Meaning
 pub mod Standing
 pub mod Turns

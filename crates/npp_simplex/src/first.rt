@@ -7,9 +7,11 @@ ghost use Rattle.npp_lp.specs.Meaning.{linear_program, IsProgram};
 ghost use Rattle.npp_simplex.specs.Run.{has_phase_one, extra_entry as extra_entry_of, first_cell, first_tableau};
 
 use crate::line::Line;
+use crate::long::Long;
 use crate::numbers::{minus_one, one, zero};
 use crate::shape::Shape;
 use crate::tableau::Tableau;
+use crate::workspace::Workspace;
 use npp_frac::{Exact, Memory};
 use npp_lp::{Program, coefficient_at};
 use std::alloc::Global;
@@ -113,9 +115,9 @@ pub fn push_row<N: Exact>(
     Ok(())
 }
 
-/// A row of the first tableau.
+/// A row of the first tableau, in the memory of another row.
 pub fn first_line<N: Exact>(
-    alloc: Global,
+    spare: Line<N>,
     shape: Shape,
     program: &Program<N>,
     i: usize,
@@ -127,15 +129,23 @@ pub fn first_line<N: Exact>(
     requires extra { N.rational extra ≡ extra_entry_of (linear_program N.rational program.now) }
     ensures { IfOk result (λ line. line ≡ map (first_cell (linear_program N.rational program.now) i) (range_with_len 0 (shape.columns + shape.rows + 2))) }
 {
-    let mut cells = Vec::with_capacity(alloc, shape.width())?;
-    push_row(&mut cells, shape, program, i, extra)?;
-    Line::of(alloc, cells)
+    let Line { words, long, .. } = spare;
+    let Long {
+        words: long_words,
+        mut fractions,
+        ..
+    } = long;
+    fractions.clear();
+    fractions.reserve(shape.width())?;
+    push_row(&mut fractions, shape, program, i, extra)?;
+    Line::over(words, long_words, fractions)
 }
 
 impl<N: Exact> Tableau<N> {
-    /// The first tableau of a program of this size.
+    /// The first tableau of a program of this size, in the memory of a workspace.
     pub fn first(
         alloc: Global,
+        workspace: &mut Workspace<N>,
         program: &Program<N>,
         shape: Shape,
         phase_one: bool,
@@ -147,9 +157,11 @@ impl<N: Exact> Tableau<N> {
         ensures { IfOk result (λ tableau. tableau ≡ first_tableau (linear_program N.rational program.now)) }
     {
         let extra = extra_entry(phase_one);
-        let mut lines = Vec::with_capacity(alloc, shape.height())?;
+        let mut lines = workspace.line_list(alloc)?;
+        lines.reserve(shape.height())?;
         for i in 0..shape.height() {
-            let line = first_line(alloc, shape, program, i, extra)?;
+            let spare = workspace.spare_line(alloc);
+            let line = first_line(spare, shape, program, i, extra)?;
             match lines.push(line) {
                 Ok(()) => {}
                 Err(_) => return Err(Memory),

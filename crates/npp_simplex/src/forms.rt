@@ -3,7 +3,7 @@
 ghost use Rattle.std.specs.Prelude.{◌≡◌, ◌≢◌, ℕ, ◌+◌, ◌-◌, ◌*◌, ◌*ℤ◌, ◌<◌, ◌≤◌, ◌^◌, length, map, pos, ◌-ℤ◌, nat_abs, true, IfSome};
 ghost use Rattle.npp_frac.specs.Rational.{ratio, whole, ◌/ℚ◌};
 ghost use Rattle.npp_frac.specs.Fits.{limit_of};
-ghost use Rattle.npp_simplex.specs.CommonForm.{number_in, over, word_limit as word_limit_of, AreWithin, IsCommonForm, line_of, turned};
+ghost use Rattle.npp_simplex.specs.CommonForm.{number_in, over, word_limit as word_limit_of, AreWithin, IsCommonForm, turned};
 ghost use Rattle.npp_simplex.specs.Steps.{nonzero_columns};
 
 use crate::words::{common_factor, divide_each, factor_of, greatest_size, negate, scale, subtract};
@@ -30,18 +30,38 @@ pub fn whole_quotient<N: Exact>(number: i64, divisor: i64) -> N
     }
 }
 
+/// How often a denominator holds a part of it.
+#[inline(always)]
+fn times_of(part: u128, denominator: u64) -> Option<u64>
+    requires { 0 < part }
+    ensures { IfSome result (λ t. t * part ≡ denominator) }
+{
+    if part == 1 {
+        return Some(denominator);
+    }
+    if part == denominator as u128 {
+        return Some(1);
+    }
+    if part > denominator as u128 {
+        return None;
+    }
+    let times = denominator / part as u64;
+    if times * part as u64 == denominator {
+        Some(times)
+    } else {
+        None
+    }
+}
+
 /// A number over a denominator, where that is a whole number below the limit.
+#[inline(always)]
 pub fn over_denominator<N: Exact>(number: N, denominator: u64, limit: u64) -> Option<i64>
     requires positive { 0 < denominator }
     requires limit { limit ≤ 2 ^ 63 }
     ensures value { IfSome result (λ x. ratio x denominator ≡ N.rational number) }
     ensures below { IfSome result (λ x. nat_abs x < limit) }
 {
-    let part = number.den() as u128;
-    let times = denominator as u128 / part;
-    if times * part != denominator as u128 {
-        return None;
-    }
+    let times = times_of(number.den() as u128, denominator)?;
     let number = number.num();
     if number.unsigned_abs() >= 1 << 63 {
         return None;
@@ -55,9 +75,22 @@ pub fn over_denominator<N: Exact>(number: N, denominator: u64, limit: u64) -> Op
 }
 
 /// A multiple of two numbers, where it is below the limit. It is the least, but nothing rests on that.
+#[inline(always)]
 pub fn common_multiple(first: u64, second: u64, limit: u64) -> Option<u64>
     requires positive { 0 < first }
     requires below { first < limit }
+    ensures { IfSome result (λ m. (0 < m) × (m < limit)) }
+{
+    if second == 1 || second == first {
+        Some(first)
+    } else {
+        computed_multiple(first, second, limit)
+    }
+}
+
+/// The same by a common factor.
+fn computed_multiple(first: u64, second: u64, limit: u64) -> Option<u64>
+    requires { 0 < first }
     ensures { IfSome result (λ m. (0 < m) × (m < limit)) }
 {
     let times = second / common_factor(first, second);
@@ -117,6 +150,19 @@ pub fn write_words<N: Exact>(
     Some(greatest)
 }
 
+/// Writes fractions as whole numbers over one denominator, where those are below the limit.
+pub fn gather_words<N: Exact>(fractions: &[N], limit: u64, words: &mut [i64]) -> Option<Sizes>
+    requires limit { limit ≤ 2 ^ 63 }
+    requires some { 1 < limit }
+    requires room { length words.old ≡ length fractions.now }
+    ensures numbers { IfSome result (λ s. over s.denominator words.new ≡ map N.rational fractions.now) }
+    ensures form { IfSome result (λ s. IsCommonForm limit s.denominator s.bound words.new) }
+{
+    let denominator = common_denominator(fractions, limit)?;
+    let bound = write_words(fractions, denominator, limit, words)?;
+    Some(Sizes { bound, denominator })
+}
+
 /// Writes whole numbers over a denominator into a list of fractions.
 pub fn write_fractions<N: Exact>(words: &[i64], sizes: Sizes, fractions: &mut [N])
     requires form { IsCommonForm (word_limit_of N.WIDTH) sizes.denominator sizes.bound words.now }
@@ -154,7 +200,20 @@ pub fn multiples_for(number: i64, denominator: u64) -> Multiples
             other: number,
         };
     }
-    let factor = common_factor(denominator, number.unsigned_abs());
+    let size = number.unsigned_abs();
+    if size % denominator == 0 {
+        return Multiples {
+            own: 1,
+            other: number / denominator as i64,
+        };
+    }
+    let factor = common_factor(denominator, size);
+    if factor == 1 {
+        return Multiples {
+            own: denominator,
+            other: number,
+        };
+    }
     Multiples {
         own: denominator / factor,
         other: number / factor as i64,
@@ -249,16 +308,5 @@ pub fn turn_signs(numbers: &mut [i64], divisor: i64)
 {
     if divisor < 0 {
         negate(numbers);
-    }
-}
-
-/// Writes the numbers of a row into its list of fractions, unless they are there.
-pub fn spread<N: Exact>(is_whole: bool, sizes: Sizes, words: &[i64], fractions: &mut [N])
-    requires room { length fractions.old ≡ length words.now }
-    requires form { is_whole ≡ true → IsCommonForm (word_limit_of N.WIDTH) sizes.denominator sizes.bound words.now }
-    ensures { map N.rational fractions.new ≡ line_of N.rational is_whole sizes.denominator words.now fractions.old }
-{
-    if is_whole {
-        write_fractions(words, sizes, fractions);
     }
 }

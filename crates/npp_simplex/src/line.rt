@@ -4,18 +4,18 @@ ghost use Rattle.std.specs.Prelude.{◌≡◌, ◌≢◌, ℕ, ◌<◌, ◌≤�
 ghost use Rattle.npp_frac.specs.Rational.{zero_ℚ, is_less, ◌/ℚ◌};
 ghost use Rattle.npp_frac.specs.Fits.{limit_of, fits_div};
 ghost use Rattle.npp_lp.specs.Programs.{at};
+ghost use Rattle.npp_simplex.specs.RowOrder.{AreWordsOf};
 ghost use Rattle.npp_simplex.specs.Steps.{nonzero_columns as nonzero_columns_of};
 
-use crate::forms::{common_denominator, shorten_words, whole_quotient, word_limit, write_words};
-use crate::numbers::{quotient, zero};
-use crate::row::clear;
+use crate::forms::{shorten_words, whole_quotient};
+use crate::long::Long;
 use crate::words::{clear_words, zero_words};
-use npp_frac::{Exact, Memory, is_positive, is_zero};
+use npp_frac::{Exact, Memory};
 use std::alloc::Global;
 use std::marker::Model;
 
-/// A row of the tableau: whole numbers over one denominator where they fit a word, and fractions elsewhere. Contracts see it
-/// as the list of its numbers.
+/// A row of the tableau: whole numbers over one denominator where they fit words of 64 bits, and what stands for longer ones
+/// elsewhere. Contracts see it as the list of its numbers.
 #[derive(Drop)]
 pub struct Line<N: Exact> {
     /// Whether its numbers are the words over the denominator.
@@ -26,34 +26,50 @@ pub struct Line<N: Exact> {
     pub bound: u64,
     /// Its words, or room for them.
     pub words: Vec<i64>,
-    /// Its fractions, or room for them.
-    pub fractions: Vec<N>,
+    /// Its numbers where they are longer, or room for them.
+    pub long: Long<N>,
 }
 
 impl<N: Exact> Model for Line<N> {
     ghost use Rattle.std.specs.Prelude.{List, length};
     ghost use Rattle.npp_frac.specs.Rational.{Rational};
-    ghost use Rattle.npp_simplex.specs.CommonForm.{line_of, IsLine};
+    ghost use Rattle.npp_simplex.specs.CommonForm.{word_limit, line_of, IsLine};
 
     ghost Value = { List Rational };
 
-    ghost view = { λ a. line_of N.rational a.is_whole a.denominator a.words.items a.fractions.items };
+    ghost view = { λ a. line_of a.is_whole a.denominator a.words.items a.long };
 
-    ghost invariant = { λ a. IsLine N.WIDTH a.is_whole a.denominator a.bound a.words.items (length a.fractions.items) };
+    ghost invariant = { λ a. IsLine (word_limit N.WIDTH) a.is_whole a.denominator a.bound a.words.items (length a.long) };
 }
 
 impl<N: Exact> Line<N> {
-    /// A row of these numbers, with room for their words.
-    pub fn of(alloc: Global, fractions: Vec<N>) -> Result<Line<N>, Memory>
+    /// A row without numbers or room.
+    pub fn empty(alloc: Global) -> Line<N> {
+        Line {
+            is_whole: false,
+            denominator: 1,
+            bound: 0,
+            words: Vec::new(alloc),
+            long: Long::empty(alloc),
+        }
+    }
+
+    /// A row of these numbers. Its words and long words lie in the lists that are handed in.
+    pub fn over(
+        words: Vec<i64>,
+        long_words: Vec<i128>,
+        fractions: Vec<N>,
+    ) -> Result<Line<N>, Memory>
         ensures { IfOk result (λ line. line ≡ map N.rational fractions.items) }
     {
-        let words = zero_words(alloc, fractions.len())?;
+        let words = zero_words(words, fractions.len())?;
+        let long = Long::over(long_words, fractions)?;
         let mut line = Line {
             is_whole: false,
             denominator: 1,
             bound: 0,
             words,
-            fractions,
+            long,
         };
         line.gather();
         Ok(line)
@@ -65,11 +81,21 @@ impl<N: Exact> Line<N> {
         ensures { N.rational result ≡ at self.now j }
     {
         let words = self.words.as_slice();
-        let fractions = self.fractions.as_slice();
         if self.is_whole {
             whole_quotient(words[j], self.denominator as i64)
         } else {
-            fractions[j]
+            self.long.number(j)
+        }
+    }
+
+    /// Its words, where they are its numbers over one denominator.
+    pub fn whole_numbers(&self) -> Option<&[i64]>
+        ensures { IfSome result (λ words. AreWordsOf (limit_of N.WIDTH) words.now self.now) }
+    {
+        if self.is_whole {
+            Some(self.words.as_slice())
+        } else {
+            None
         }
     }
 
@@ -79,11 +105,10 @@ impl<N: Exact> Line<N> {
         ensures { result ≡ is_less zero_ℚ (at self.now j) }
     {
         let words = self.words.as_slice();
-        let fractions = self.fractions.as_slice();
         if self.is_whole {
             words[j] > 0
         } else {
-            is_positive(fractions[j])
+            self.long.is_positive(j)
         }
     }
 
@@ -93,11 +118,10 @@ impl<N: Exact> Line<N> {
         ensures { IsTrue result ↔ (at self.now j ≡ zero_ℚ) }
     {
         let words = self.words.as_slice();
-        let fractions = self.fractions.as_slice();
         if self.is_whole {
             words[j] == 0
         } else {
-            is_zero(fractions[j])
+            self.long.is_zero(j)
         }
     }
 
@@ -126,11 +150,10 @@ impl<N: Exact> Line<N> {
         ensures exact { IfSome result (λ q. N.rational q ≡ at self.now j /ℚ at self.now by) }
     {
         let words = self.words.as_slice();
-        let fractions = self.fractions.as_slice();
         if self.is_whole {
             Some(whole_quotient(words[j], words[by]))
         } else {
-            quotient(fractions[j], fractions[by])
+            self.long.quotient(j, by)
         }
     }
 
@@ -151,8 +174,20 @@ impl<N: Exact> Line<N> {
         count
     }
 
-    /// Takes a common factor out of the words, and finds how long they are.
+    /// Takes a common factor out of the numbers, and brings them into words where they fit.
     pub fn shorten(&mut self)
+        ensures { self.new ≡ self.old }
+    {
+        if self.is_whole {
+            self.shorten_words();
+        } else {
+            self.long.shorten();
+            self.gather();
+        }
+    }
+
+    /// Takes a common factor out of the words, and finds how long they are.
+    pub fn shorten_words(&mut self)
         ensures { self.new ≡ self.old }
     {
         if !self.is_whole {
@@ -163,24 +198,18 @@ impl<N: Exact> Line<N> {
         self.bound = sizes.bound;
     }
 
-    /// Brings fractions over one denominator, where their words are below the limit.
+    /// Brings longer numbers into words over one denominator, where they fit.
     pub fn gather(&mut self)
         ensures { self.new ≡ self.old }
     {
         if self.is_whole {
             return;
         }
-        let limit = word_limit::<N>();
-        let fractions = self.fractions.as_slice();
-        let Some(denominator) = common_denominator(fractions, limit) else {
-            return;
-        };
-        let words = self.words.as_mut_slice();
-        match write_words(fractions, denominator, limit, words) {
-            Some(bound) => {
+        match self.long.give_words(self.words.as_mut_slice()) {
+            Some(sizes) => {
                 self.is_whole = true;
-                self.denominator = denominator;
-                self.bound = bound;
+                self.denominator = sizes.denominator;
+                self.bound = sizes.bound;
             }
             None => {}
         }
@@ -195,9 +224,11 @@ impl<N: Exact> Line<N> {
         self.denominator = other.denominator;
         self.bound = other.bound;
         let words = other.words.as_slice();
-        let fractions = other.fractions.as_slice();
-        self.words.as_mut_slice().copy_from_slice(words);
-        self.fractions.as_mut_slice().copy_from_slice(fractions);
+        if other.is_whole {
+            self.words.as_mut_slice().copy_from_slice(words);
+        } else {
+            self.long.copy_from(&other.long);
+        }
     }
 
     /// Sets a number to 0.
@@ -207,8 +238,11 @@ impl<N: Exact> Line<N> {
         ensures here { at self.new j ≡ zero_ℚ }
         ensures others { (k : ℕ) → k ≢ j → at self.new k ≡ at self.old k }
     {
-        self.words[j] = 0;
-        self.fractions[j] = zero();
+        if self.is_whole {
+            self.words[j] = 0;
+        } else {
+            self.long.clear_at(j);
+        }
     }
 
     /// Sets each number to 0.
@@ -217,6 +251,8 @@ impl<N: Exact> Line<N> {
         ensures zeros { (j : ℕ) → j < length self.old → at self.new j ≡ zero_ℚ }
     {
         clear_words(self.words.as_mut_slice());
-        clear(self.fractions.as_mut_slice());
+        self.is_whole = true;
+        self.denominator = 1;
+        self.bound = 0;
     }
 }

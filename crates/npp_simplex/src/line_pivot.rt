@@ -9,14 +9,28 @@ ghost use Rattle.npp_lp.specs.Verdict.{first_below};
 ghost use Rattle.npp_simplex.specs.Places.{column_unless, fits_less_product};
 ghost use Rattle.npp_simplex.specs.Steps.{nonzero_columns as nonzero_columns_of};
 
-use crate::forms::{Sizes, multiples_for, replace, sizes_after, spread, turn_signs, word_limit};
+use crate::forms::{Sizes, multiples_for, replace, sizes_after, turn_signs, word_limit};
 use crate::line::Line;
-use crate::row::{divide, eliminate};
 use npp_frac::Exact;
 
 impl<N: Exact> Line<N> {
-    /// Divides the row by its number in a column, up to the first quotient that does not fit, whose column it answers.
+    /// Divides the row by its number in a column, up to the first quotient that does not fit, whose column it answers. Then a
+    /// common factor of its words goes, whether or not the denominator of before had it too.
     pub fn divide(&mut self, column: usize) -> Option<u32>
+        requires short { length self.old < 2 ^ 32 }
+        requires column { column < length self.old }
+        requires divisor { at self.old column ≢ zero_ℚ }
+        ensures length { length self.new ≡ length self.old }
+        ensures stop { result ≡ first_below (length self.old) (λ j. column_unless (fits_div (limit_of N.WIDTH) (at self.old j) (at self.old column)) j) }
+        ensures divided { IfNone result ((j : ℕ) → j < length self.old → at self.new j ≡ at self.old j /ℚ at self.old column) }
+    {
+        let stop = self.divide_by(column);
+        self.shorten();
+        stop
+    }
+
+    /// The same, with the factor left in.
+    pub fn divide_by(&mut self, column: usize) -> Option<u32>
         requires short { length self.old < 2 ^ 32 }
         requires column { column < length self.old }
         requires divisor { at self.old column ≢ zero_ℚ }
@@ -32,9 +46,7 @@ impl<N: Exact> Line<N> {
             self.denominator = divisor.unsigned_abs();
             return None;
         }
-        let fractions = self.fractions.as_mut_slice();
-        let divisor = fractions[column];
-        let stop = divide(fractions, divisor);
+        let stop = self.long.divide(column);
         self.gather();
         stop
     }
@@ -51,18 +63,18 @@ impl<N: Exact> Line<N> {
         ensures reduced { IfNone result ((j : ℕ) → j < length self.old → at self.new j ≡ at self.old j -ℚ at self.old column *ℚ at other.now j) }
     {
         // From here on it is known that the words fit.
-        let _ = &self.words;
+        self.long.keeps_limit();
         if self.is_zero(column) {
             return None;
         }
         if self.reduce_words(column, other, columns) {
             return None;
         }
-        self.shorten();
+        self.shorten_words();
         if self.reduce_words(column, other, columns) {
             return None;
         }
-        self.reduce_fractions(column, other, columns)
+        self.reduce_long(column, other, columns)
     }
 
     /// The same over one denominator, where both rows are so and the sizes show that every number fits. Else nothing is done.
@@ -97,13 +109,8 @@ impl<N: Exact> Line<N> {
         true
     }
 
-    /// The same number by number.
-    pub fn reduce_fractions(
-        &mut self,
-        column: usize,
-        other: &Line<N>,
-        columns: &[u32],
-    ) -> Option<u32>
+    /// The same in longer numbers.
+    pub fn reduce_long(&mut self, column: usize, other: &Line<N>, columns: &[u32]) -> Option<u32>
         requires short { length self.old < 2 ^ 32 }
         requires column { column < length self.old }
         requires other { length other.now ≡ length self.old }
@@ -118,11 +125,8 @@ impl<N: Exact> Line<N> {
             denominator: self.denominator,
         };
         self.is_whole = false;
-        let words = self.words.as_slice();
-        let fractions = self.fractions.as_mut_slice();
-        spread(is_whole, sizes, words, fractions);
-        let factor = fractions[column];
-        let stop = eliminate(fractions, factor, other, columns);
+        self.long.take_from(is_whole, self.words.as_slice(), sizes);
+        let stop = self.long.reduce(column, other, columns);
         self.gather();
         stop
     }

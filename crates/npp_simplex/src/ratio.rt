@@ -11,6 +11,7 @@ ghost use Rattle.npp_simplex.specs.Places.{quotient_fits, quotients_stop, remain
 ghost use Rattle.npp_simplex.specs.Meaning.{IsCandidate, AreCandidates, IsLeastOf, rows_up_to};
 
 use crate::numbers::lesser;
+use crate::pairs::leaving_by_pairs;
 use crate::place::{Place, Step};
 use crate::stage::{EnteringColumn, Stage};
 use crate::tableau::Tableau;
@@ -179,6 +180,27 @@ pub fn refine_by_slacks<N: Exact>(
     Ok(candidates[0])
 }
 
+/// The candidate that remains when they are compared at one column after the other, or the first place that does not fit.
+pub fn leaving_by_columns<N: Exact>(
+    tableau: &Tableau<N>,
+    entering: EnteringColumn,
+    candidates: &mut [u32],
+    numbers: &mut [N],
+) -> Result<u32, Place>
+    requires column { entering.column < width tableau.now }
+    requires some { 2 ≤ length candidates.old }
+    requires room { length candidates.old ≤ length numbers.old }
+    requires rows { AreCandidates tableau.now entering.column candidates.old }
+    ensures row { result ≡ remaining (Some (limit_of N.WIDTH)) entering.stage tableau.now entering.column (keys tableau.now) candidates.old }
+    ensures candidate { IfOk result (λ row. IsCandidate tableau.now entering.column row) }
+{
+    let right = tableau.shape().right();
+    match refine_at(tableau, entering, right, candidates, numbers) {
+        Ok(left) => refine_by_slacks(tableau, entering, &mut candidates[..left], numbers),
+        Err(place) => Err(place),
+    }
+}
+
 /// The candidate that leaves the basis, or the first place of the ratio test that does not fit.
 pub fn leaving<N: Exact>(
     tableau: &Tableau<N>,
@@ -196,10 +218,9 @@ pub fn leaving<N: Exact>(
     if candidates.len() < 2 {
         return Ok(candidates[0]);
     }
-    let right = tableau.shape().right();
-    match refine_at(tableau, entering, right, candidates, numbers) {
-        Ok(left) => refine_by_slacks(tableau, entering, &mut candidates[..left], numbers),
-        Err(place) => Err(place),
+    match leaving_by_pairs(tableau, entering, candidates) {
+        Some(row) => Ok(row),
+        None => leaving_by_columns(tableau, entering, candidates, numbers),
     }
 }
 

@@ -9,7 +9,7 @@ ghost use Rattle.npp_simplex.specs.Places.{column_unless, fits_less_product};
 ghost use Rattle.npp_simplex.specs.Steps.{nonzero_columns as nonzero_columns_of};
 
 use crate::line::Line;
-use crate::numbers::{quotient, zero};
+use crate::numbers::quotient;
 use npp_frac::Exact;
 
 /// A number less the product of two, where both the product and the difference fit.
@@ -66,13 +66,4 @@ pub fn eliminate<N: Exact>(
         }
     }
     None
-}
-
-/// Sets each number of a row to 0.
-pub fn clear<N: Exact>(row: &mut [N])
-    ensures { (j : ℕ) → j < length row.old → at (map N.rational row.new) j ≡ zero_ℚ }
-{
-    for j in 0..row.len() {
-        row[j] = zero();
-    }
 }

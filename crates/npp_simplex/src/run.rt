@@ -18,6 +18,7 @@ use crate::room::{Room, numbers_from};
 use crate::shape::Shape;
 use crate::stage::{EnteringColumn, Stage};
 use crate::tableau::Tableau;
+use crate::workspace::Workspace;
 use npp_frac::{Exact, Memory};
 use npp_lp::{Program, first_negative};
 use std::alloc::Global;
@@ -115,8 +116,12 @@ pub fn pivot_on<N: Exact>(
 }
 
 impl<N: Exact> State<N> {
-    /// The state in which the run of a program begins.
-    pub fn first(alloc: Global, program: &Program<N>) -> Result<State<N>, Memory>
+    /// The state in which the run of a program begins, in the memory of a workspace.
+    pub fn first(
+        alloc: Global,
+        workspace: &mut Workspace<N>,
+        program: &Program<N>,
+    ) -> Result<State<N>, Memory>
         ensures state { IfOk result (λ state. state ≡ first_state (linear_program N.rational program.now)) }
         ensures form { IsProgram N.rational program.now }
     {
@@ -125,10 +130,10 @@ impl<N: Exact> State<N> {
             columns: program.columns() as usize,
         };
         let phase_one = first_negative(program.right()).is_some();
-        let tableau = Tableau::first(alloc, program, shape, phase_one)?;
+        let tableau = Tableau::first(alloc, workspace, program, shape, phase_one)?;
         let stage = first_stage(phase_one);
-        let basis = numbers_from(alloc, shape.columns, shape.rows)?;
-        let room = Room::new(alloc, shape)?;
+        let basis = numbers_from(workspace.basis_list(alloc), shape.columns, shape.rows)?;
+        let room = workspace.last_room(alloc).fit(shape)?;
         Ok(State {
             stage,
             tableau,
@@ -137,8 +142,13 @@ impl<N: Exact> State<N> {
         })
     }
 
-    /// One turn of the run: it ends, or one pivot is made.
-    pub fn turn(self, alloc: Global, made: u32) -> Result<Turn<N>, Memory>
+    /// One turn of the run: it ends, and its memory goes to the workspace, or one pivot is made.
+    pub fn turn(
+        self,
+        alloc: Global,
+        workspace: &mut Workspace<N>,
+        made: u32,
+    ) -> Result<Turn<N>, Memory>
         requires { made + 1 < 2 ^ 32 }
         ensures { IfOk result (λ turn. (left : ℕ) → run_from (Some (limit_of N.WIDTH)) (suc left) made self ≡ goes_on N.rational (Some (limit_of N.WIDTH)) left made turn) }
     {
@@ -149,7 +159,9 @@ impl<N: Exact> State<N> {
             mut room,
         } = self;
         let Some(column) = tableau.entering(stage) else {
-            return Ok(Turn::Ends(no_column(alloc, stage, &tableau, basis.as_slice(), made)?));
+            let answer = no_column(alloc, stage, &tableau, basis.as_slice(), made)?;
+            workspace.keep(tableau, basis, room);
+            return Ok(Turn::Ends(answer));
         };
         let entering = EnteringColumn {
             stage,
@@ -167,16 +179,28 @@ impl<N: Exact> State<N> {
                     room,
                 }))
             }
-            Ok(None) => Ok(Turn::Ends(unbounded(alloc, &tableau, basis.as_slice(), column, made)?)),
-            Err(place) => Ok(Turn::Ends(Answer::Overflow {
-                pivot: made + 1,
-                place,
-            })),
+            Ok(None) => {
+                let answer = unbounded(alloc, &tableau, basis.as_slice(), column, made)?;
+                workspace.keep(tableau, basis, room);
+                Ok(Turn::Ends(answer))
+            }
+            Err(place) => {
+                workspace.keep(tableau, basis, room);
+                Ok(Turn::Ends(Answer::Overflow {
+                    pivot: made + 1,
+                    place,
+                }))
+            }
         }
     }
 
-    /// How the run ends where no more pivots are allowed.
-    pub fn last_look(self, alloc: Global, made: u32) -> Result<Answer<N>, Memory>
+    /// How the run ends where no more pivots are allowed. Its memory goes to the workspace.
+    pub fn last_look(
+        self,
+        alloc: Global,
+        workspace: &mut Workspace<N>,
+        made: u32,
+    ) -> Result<Answer<N>, Memory>
         ensures { IfOk result (λ a. outcome_of N.rational a ≡ run_from (Some (limit_of N.WIDTH)) 0 made self) }
     {
         let State {
@@ -186,26 +210,36 @@ impl<N: Exact> State<N> {
             mut room,
         } = self;
         let Some(column) = tableau.entering(stage) else {
-            return no_column(alloc, stage, &tableau, basis.as_slice(), made);
+            let ended = no_column(alloc, stage, &tableau, basis.as_slice(), made)?;
+            workspace.keep(tableau, basis, room);
+            return Ok(ended);
         };
         let list = room.candidates.as_mut_slice();
         if tableau.candidates(stage, column as usize, list) == 0 {
-            return unbounded(alloc, &tableau, basis.as_slice(), column, made);
+            let rising = unbounded(alloc, &tableau, basis.as_slice(), column, made)?;
+            workspace.keep(tableau, basis, room);
+            return Ok(rising);
         }
+        workspace.keep(tableau, basis, room);
         Ok(Answer::Capped)
     }
 }
 
-/// The answer of a run from its first state on, with at most `cap` pivots.
-pub fn run<N: Exact>(alloc: Global, first: State<N>, cap: u32) -> Result<Answer<N>, Memory>
+/// The answer of a run from its first state on, with at most `cap` pivots. Its memory goes to the workspace.
+pub fn run<N: Exact>(
+    alloc: Global,
+    workspace: &mut Workspace<N>,
+    first: State<N>,
+    cap: u32,
+) -> Result<Answer<N>, Memory>
     ensures { IfOk result (λ a. outcome_of N.rational a ≡ run_from (Some (limit_of N.WIDTH)) cap 0 first) }
 {
     let mut state = first;
     for made in 0..cap {
-        match state.turn(alloc, made)? {
+        match state.turn(alloc, workspace, made)? {
             Turn::GoesOn(next) => state = next,
             Turn::Ends(answer) => return Ok(answer),
         }
     }
-    state.last_look(alloc, cap)
+    state.last_look(alloc, workspace, cap)
 }

@@ -10,6 +10,7 @@ ghost use Rattle.npp_simplex.specs.Meaning.{outcome_of};
 
 use crate::answer::Answer;
 use crate::run::{State, run};
+use crate::workspace::Workspace;
 use npp_frac::{Exact, Memory};
 use npp_lp::Program;
 use std::alloc::Global;
@@ -18,12 +19,28 @@ use std::alloc::Global;
 ///
 /// Phase one is entered where a right side is negative. The entering column is the least with a
 /// positive reduced cost, and rows that tie in the ratio test are compared at the slack columns in turn.
-/// The answer is that of the run over all rational numbers, up to the first number that does not fit.
+/// The answer is that of the run over all rational numbers, up to the first number that does not fit. The memory of the
+/// run is the workspace's, which keeps it for the next run; only the answer is allocated each time.
+pub fn solve_in<N: Exact>(
+    alloc: Global,
+    workspace: &mut Workspace<N>,
+    program: &Program<N>,
+    cap: u32,
+) -> Result<Answer<N>, Memory>
+    ensures answer { IfOk result (λ a. outcome_of N.rational a ≡ run_of (Some (limit_of N.WIDTH)) cap (linear_program N.rational program.now)) }
+    ensures proved { IfOk result (λ a. IsProved (linear_program N.rational program.now) (outcome_of N.rational a)) }
+    ensures pivots { IfOk result (λ a. HasFewerPivots (basis_count (linear_program N.rational program.now)) cap (outcome_of N.rational a)) }
+{
+    let first = State::first(alloc, workspace, program)?;
+    run(alloc, workspace, first, cap)
+}
+
+/// Runs the lexicographic simplex on a program, for at most `cap` pivots: see [`solve_in`]. The memory of the run is given back.
 pub fn solve<N: Exact>(alloc: Global, program: &Program<N>, cap: u32) -> Result<Answer<N>, Memory>
     ensures answer { IfOk result (λ a. outcome_of N.rational a ≡ run_of (Some (limit_of N.WIDTH)) cap (linear_program N.rational program.now)) }
     ensures proved { IfOk result (λ a. IsProved (linear_program N.rational program.now) (outcome_of N.rational a)) }
     ensures pivots { IfOk result (λ a. HasFewerPivots (basis_count (linear_program N.rational program.now)) cap (outcome_of N.rational a)) }
 {
-    let first = State::first(alloc, program)?;
-    run(alloc, first, cap)
+    let mut workspace = Workspace::new(alloc);
+    solve_in(alloc, &mut workspace, program, cap)
 }

@@ -6,7 +6,6 @@ ghost use Rattle.npp_simplex.specs.CommonForm.{number_in, AreWithin};
 ghost use Rattle.npp_simplex.specs.Steps.{nonzero_columns};
 
 use npp_frac::Memory;
-use std::alloc::Global;
 
 /// A common factor of two numbers. It is the greatest, but nothing rests on that.
 pub fn common_factor(first: u64, second: u64) -> u64
@@ -16,7 +15,11 @@ pub fn common_factor(first: u64, second: u64) -> u64
     ensures of_second { second % result ≡ 0 }
 {
     let mut x = first;
-    let mut y = second;
+    let mut y = if second < first {
+        second
+    } else {
+        second % first
+    };
     while y != 0 {
         let rest = x % y;
         x = y;
@@ -70,6 +73,17 @@ pub fn scale(numbers: &mut [i64], factor: u64)
     }
 }
 
+/// The quotient by a positive number, rounded toward zero. It divides sizes, since to divide a number below 0 takes longer.
+#[inline(always)]
+fn truncated(number: i64, by: u64) -> i64
+    requires positive { 0 < by }
+    requires size { nat_abs number < 2 ^ 63 }
+    ensures { result ≡ int_div number (pos by) }
+{
+    let quotient = (number.unsigned_abs() / by) as i64;
+    if number < 0 { -quotient } else { quotient }
+}
+
 /// Divides each number.
 pub fn divide_each(numbers: &mut [i64], factor: u64)
     requires positive { 0 < factor }
@@ -77,9 +91,8 @@ pub fn divide_each(numbers: &mut [i64], factor: u64)
     requires sizes { AreWithin (2 ^ 63 - 1) numbers.old }
     ensures { (j : ℕ) → number_in numbers.new j ≡ int_div (number_in numbers.old j) (pos factor) }
 {
-    let by = factor as i64;
     for j in 0..numbers.len() {
-        numbers[j] = numbers[j] / by;
+        numbers[j] = truncated(numbers[j], factor);
     }
 }
 
@@ -107,11 +120,13 @@ pub fn subtract(numbers: &mut [i64], factor: i64, other: &[i64], columns: &[u32]
     }
 }
 
-/// A list of zeros.
-pub fn zero_words(alloc: Global, count: usize) -> Result<Vec<i64>, Memory>
+/// A list of zeros, in the memory of another list.
+pub fn zero_words(room: Vec<i64>, count: usize) -> Result<Vec<i64>, Memory>
     ensures { IfOk result (λ list. length list.items ≡ count) }
 {
-    let mut list = Vec::with_capacity(alloc, count)?;
+    let mut list = room;
+    list.clear();
+    list.reserve(count)?;
     for _i in 0..count {
         match list.push(0) {
             Ok(()) => {}

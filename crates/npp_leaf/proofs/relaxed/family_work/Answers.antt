@@ -18,8 +18,8 @@ returns-in-Err-Large g c =
     ap (found_value g.N.Exact.rational) c.marked.ensures
     ∙ large_found (limit_of g.N.Exact.WIDTH) c.args.index.now.paths c.args.index.now.parts (map (cut_value g.N.Exact.rational) c.args.cuts.now) c.in-Err-Large.field-0 c.in-Err-Large.field-0-is c.in-Err-Large.ensures.large
 
-pub work_on-requires : goal.work_on-requires
-work_on-requires g c = record {
+pub work_on_in-requires : goal.work_on_in-requires
+work_on_in-requires g c = record {
   bounded = λ d ray.
       no_ray c.args.index.now.paths c.args.index.now.parts (map (cut_value g.N.Exact.rational) c.args.cuts.now) d (subst (λ (p : LinearProgram). IsRay p d) c.in-Ok.ensures.program ray);
 }

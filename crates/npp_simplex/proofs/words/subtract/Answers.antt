@@ -27,7 +27,7 @@ overflow_sub-numbers c =
     let fits : FitsSigned w64 c.args.factor = c.ranges.factor in
     let j = slice_index_or c.args.columns.now c.loop-s.s 0 in
     let same = unchanged c.args.numbers.now (to_z w64 (of_z w64 c.args.factor)) c.args.other.now c.args.columns.now c.requires.columns c.loop-s.numbers c.loop-s.s c.loop-s.invariant (omega arith) in
-    difference_fits (number_in c.loop-s.numbers j) c.args.factor (number_in c.args.other.now j) fits (rw same (c.requires.sizes j))
+    difference_fits w64 (number_in c.loop-s.numbers j) c.args.factor (number_in c.args.other.now j) fits (rw same (c.requires.sizes j))
 
 pub loop-s-preserved : goal.loop-s-preserved
 loop-s-preserved c =
@@ -35,6 +35,6 @@ loop-s-preserved c =
     let j = slice_index_or c.args.columns.now c.loop-s.s 0 in
     let f = to_z w64 (of_z w64 c.args.factor) in
     let same = unchanged c.args.numbers.now f c.args.other.now c.args.columns.now c.requires.columns c.loop-s.numbers c.loop-s.s c.loop-s.invariant (omega arith) in
-    let exact = difference_is (number_in c.loop-s.numbers j) c.args.factor (number_in c.args.other.now j) fits (rw same (c.requires.sizes j)) in
+    let exact = difference_is w64 (number_in c.loop-s.numbers j) c.args.factor (number_in c.args.other.now j) fits (rw same (c.requires.sizes j)) in
     goes_on c.args.numbers.now f c.args.other.now c.args.columns.now c.requires.columns c.loop-s.numbers c.loop-s.s c.loop-s.invariant (omega arith) _
     (exact ∙ ap₂ (λ x t. x -ℤ (t *ℤ number_in c.args.other.now (slice_index_or c.args.columns.now c.loop-s.s 0))) same (sym (to_z-of_z fits)))

@@ -14,8 +14,8 @@ use Rattle.npp_search.proofs.SharesLaws.{found_tolls}
 use Rattle.npp_search.proofs.OpenLaws.{offered_is, shares_are, tolls_are, opens_node}
 use Rattle.npp_search.proofs.state.State.open_node.Goals as goal
 
-pub evidence_for-requires-clause-useful : goal.evidence_for-requires-clause-useful
-evidence_for-requires-clause-useful g c =
+pub evidence_in-requires-clause-useful : goal.evidence_in-requires-clause-useful
+evidence_in-requires-clause-useful g c =
     let setting = c.requires.setting in
     subst (λ (m : PathModel). HasUsefulPaths m) (sym setting.table) (has_useful_paths c.args.setting.now.instance.now c.args.setting.now.covers.now setting.covers)
 

@@ -9,4 +9,4 @@ pub returns-then-self : goal.returns-then-self
 returns-then-self g c =
     let form = c.self.invariant.form c.if-self.true in
     is_less_ratio (number_in c.as_slice-words.result.now c.args.j) c.self.inside.denominator form.above _ (λ e. grind (arith, ints)) (λ e. grind (arith, ints))
-    ∙ ap (is_less zero_ℚ) (ap (λ xs. ratio (number_in xs c.args.j) c.self.inside.denominator) c.as_slice-words.ensures.value ∙ sym (whole_at g.N.Exact.rational c.self.inside.is_whole c.self.inside.denominator c.self.inside.words.items c.self.inside.fractions.items c.args.self.now c.self.view_is c.if-self.true form.above c.args.j))
+    ∙ ap (is_less zero_ℚ) (ap (λ xs. ratio (number_in xs c.args.j) c.self.inside.denominator) c.as_slice-words.ensures.value ∙ sym (whole_at c.self.inside.is_whole c.self.inside.denominator c.self.inside.words.items c.self.inside.long c.args.self.now c.self.view_is c.if-self.true form.above c.args.j))

@@ -28,4 +28,4 @@ returns-then-self g c =
     let below : c.self.inside.denominator < 2 ^ 63 = denominator_in_word g.N.Exact.WIDTH c.self.inside.denominator c.self.inside.bound c.self.inside.words.items (c.self.invariant.form c.if-self.true) in
     let exact : v c.whole_quotient.result ≡ whole (number_in c.as_slice-words.result.now c.args.j) /ℚ whole (pos c.self.inside.denominator) = search (rules, to_z-of_z, to_z_pos) in
     exact ∙ ratio_quotient (number_in c.as_slice-words.result.now c.args.j) c.self.inside.denominator form.above
-    ∙ ap (λ xs. ratio (number_in xs c.args.j) c.self.inside.denominator) c.as_slice-words.ensures.value ∙ sym (whole_at g.N.Exact.rational c.self.inside.is_whole c.self.inside.denominator c.self.inside.words.items c.self.inside.fractions.items c.args.self.now c.self.view_is c.if-self.true form.above c.args.j)
+    ∙ ap (λ xs. ratio (number_in xs c.args.j) c.self.inside.denominator) c.as_slice-words.ensures.value ∙ sym (whole_at c.self.inside.is_whole c.self.inside.denominator c.self.inside.words.items c.self.inside.long c.args.self.now c.self.view_is c.if-self.true form.above c.args.j)

@@ -21,7 +21,7 @@ pub whole_quotient-requires-clause-nonzero : goal.whole_quotient-requires-clause
 whole_quotient-requires-clause-nonzero g c =
     let form = c.self.invariant.form c.if-self.true in
     let is : at c.args.self.now c.args.by ≡ ratio (number_in c.as_slice-words.result.now c.args.by) c.self.inside.denominator =
-    whole_at g.N.Exact.rational c.self.inside.is_whole c.self.inside.denominator c.self.inside.words.items c.self.inside.fractions.items c.args.self.now c.self.view_is c.if-self.true form.above c.args.by ∙ sym (ap (λ xs. ratio (number_in xs c.args.by) c.self.inside.denominator) c.as_slice-words.ensures.value) in
+    whole_at c.self.inside.is_whole c.self.inside.denominator c.self.inside.words.items c.self.inside.long c.args.self.now c.self.view_is c.if-self.true form.above c.args.by ∙ sym (ap (λ xs. ratio (number_in xs c.args.by) c.self.inside.denominator) c.as_slice-words.ensures.value) in
     let apart : number_in c.as_slice-words.result.now c.args.by ≢ pos 0 = λ e. c.requires.divisor (is ∙ ratio_of_zero _ c.self.inside.denominator form.above e) in
     search (rules, to_z-of_z)
 
@@ -31,9 +31,9 @@ returns-then-self-clause-fits g c =
     let form = c.self.invariant.form c.if-self.true in
     let ws = c.self.inside.words.items in
     let d = c.self.inside.denominator in
-    let apart : number_in c.self.inside.words.items c.args.by ≢ pos 0 = λ e. c.requires.divisor (whole_at g.N.Exact.rational c.self.inside.is_whole c.self.inside.denominator c.self.inside.words.items c.self.inside.fractions.items c.args.self.now c.self.view_is c.if-self.true form.above c.args.by ∙ ratio_of_zero _ c.self.inside.denominator form.above e) in
+    let apart : number_in c.self.inside.words.items c.args.by ≢ pos 0 = λ e. c.requires.divisor (whole_at c.self.inside.is_whole c.self.inside.denominator c.self.inside.words.items c.self.inside.long c.args.self.now c.self.view_is c.if-self.true form.above c.args.by ∙ ratio_of_zero _ c.self.inside.denominator form.above e) in
     common_quotient_fits m (number_in ws c.args.j) (number_in ws c.args.by) d form.above apart (number_fits g.N.Exact.WIDTH c.self.inside.denominator c.self.inside.bound c.self.inside.words.items (c.self.invariant.form c.if-self.true) c.args.j) (number_fits g.N.Exact.WIDTH c.self.inside.denominator c.self.inside.bound c.self.inside.words.items (c.self.invariant.form c.if-self.true) c.args.by)
-    ∙ ap₂ (fits_div m) (sym (whole_at g.N.Exact.rational c.self.inside.is_whole c.self.inside.denominator c.self.inside.words.items c.self.inside.fractions.items c.args.self.now c.self.view_is c.if-self.true form.above c.args.j)) (sym (whole_at g.N.Exact.rational c.self.inside.is_whole c.self.inside.denominator c.self.inside.words.items c.self.inside.fractions.items c.args.self.now c.self.view_is c.if-self.true form.above c.args.by))
+    ∙ ap₂ (fits_div m) (sym (whole_at c.self.inside.is_whole c.self.inside.denominator c.self.inside.words.items c.self.inside.long c.args.self.now c.self.view_is c.if-self.true form.above c.args.j)) (sym (whole_at c.self.inside.is_whole c.self.inside.denominator c.self.inside.words.items c.self.inside.long c.args.self.now c.self.view_is c.if-self.true form.above c.args.by))
 
 pub returns-then-self-clause-exact : goal.returns-then-self-clause-exact
 returns-then-self-clause-exact g c =
@@ -41,7 +41,7 @@ returns-then-self-clause-exact g c =
     let form = c.self.invariant.form c.if-self.true in
     let ws = c.self.inside.words.items in
     let d = c.self.inside.denominator in
-    let apart : number_in c.self.inside.words.items c.args.by ≢ pos 0 = λ e. c.requires.divisor (whole_at g.N.Exact.rational c.self.inside.is_whole c.self.inside.denominator c.self.inside.words.items c.self.inside.fractions.items c.args.self.now c.self.view_is c.if-self.true form.above c.args.by ∙ ratio_of_zero _ c.self.inside.denominator form.above e) in
+    let apart : number_in c.self.inside.words.items c.args.by ≢ pos 0 = λ e. c.requires.divisor (whole_at c.self.inside.is_whole c.self.inside.denominator c.self.inside.words.items c.self.inside.long c.args.self.now c.self.view_is c.if-self.true form.above c.args.by ∙ ratio_of_zero _ c.self.inside.denominator form.above e) in
     let exact : v c.whole_quotient.result ≡ whole (number_in c.as_slice-words.result.now c.args.j) /ℚ whole (number_in c.as_slice-words.result.now c.args.by) = search (rules, to_z-of_z) in
     exact ∙ ap (λ xs. whole (number_in xs c.args.j) /ℚ whole (number_in xs c.args.by)) c.as_slice-words.ensures.value ∙ sym (common_quotient (number_in ws c.args.j) (number_in ws c.args.by) d form.above apart)
-    ∙ ap₂ ◌/ℚ◌ (sym (whole_at g.N.Exact.rational c.self.inside.is_whole c.self.inside.denominator c.self.inside.words.items c.self.inside.fractions.items c.args.self.now c.self.view_is c.if-self.true form.above c.args.j)) (sym (whole_at g.N.Exact.rational c.self.inside.is_whole c.self.inside.denominator c.self.inside.words.items c.self.inside.fractions.items c.args.self.now c.self.view_is c.if-self.true form.above c.args.by))
+    ∙ ap₂ ◌/ℚ◌ (sym (whole_at c.self.inside.is_whole c.self.inside.denominator c.self.inside.words.items c.self.inside.long c.args.self.now c.self.view_is c.if-self.true form.above c.args.j)) (sym (whole_at c.self.inside.is_whole c.self.inside.denominator c.self.inside.words.items c.self.inside.long c.args.self.now c.self.view_is c.if-self.true form.above c.args.by))

@@ -3,10 +3,9 @@ use Rattle.std.proofs.Math.Nat.{mul-le-mul}
 use Rattle.std.proofs.lemmas.List.{with_items_is}
 use Rattle.std.proofs.lemmas.Int.{fits_signed_from_abs}
 use Rattle.npp_frac.specs.Rational.{whole}
-use Rattle.npp_frac.specs.Fits.{limit_of}
 use Rattle.npp_lp.specs.Programs.{at}
 use Rattle.npp_simplex.specs.Steps.{nonzero_columns}
-use Rattle.npp_simplex.specs.CommonForm.{number_in, line_of, IsLine}
+use Rattle.npp_simplex.specs.CommonForm.{word_limit, number_in, line_of, IsLine}
 use Rattle.npp_simplex.proofs.LineForms.{whole_at, line_length, whole_columns, number_in_word, denominator_in_word, below_width, below_word}
 use Rattle.npp_simplex.proofs.LinePivots.{reduce_fits, reduce_is, reduce_inv}
 use Rattle.npp_simplex.proofs.line.Line.reduce_words.Goals as goal
@@ -24,9 +23,9 @@ pub replace-requires-clause-columns : goal.replace-requires-clause-columns
 replace-requires-clause-columns g c =
     let v = g.N.Exact.rational in
     let other_form = c.other.invariant.form c.if-not-other.false in
-    let other_at = whole_at v c.other.inside.is_whole c.other.inside.denominator c.other.inside.words.items c.other.inside.fractions.items c.args.other.now c.other.view_is c.if-not-other.false other_form.above in
+    let other_at = whole_at c.other.inside.is_whole c.other.inside.denominator c.other.inside.words.items c.other.inside.long c.args.other.now c.other.view_is c.if-not-other.false other_form.above in
     let long : length c.args.self.now ≡ length c.as_mut_slice.result.now =
-    line_length v c.self.inside.is_whole c.self.inside.denominator c.self.inside.words.items c.self.inside.fractions.items c.args.self.now c.self.view_is c.self.invariant.room ∙ sym c.self.invariant.room ∙ ap length (sym c.as_mut_slice.ensures.value) in
+    line_length c.self.inside.is_whole c.self.inside.denominator c.self.inside.words.items c.self.inside.long c.args.self.now c.self.view_is (λ e. c.self.invariant.room) ∙ sym c.self.invariant.room ∙ ap length (sym c.as_mut_slice.ensures.value) in
     c.requires.columns ∙ whole_columns c.args.other.now c.other.inside.words.items c.other.inside.denominator (length c.args.self.now) other_form.above other_at
     ∙ ap₂ (λ zs n. nonzero_columns (λ j. whole (number_in zs j)) n) (sym c.as_slice-others.ensures.value) long
 
@@ -47,19 +46,18 @@ invariant_of-self g c =
     let other_form = c.other.invariant.form c.if-not-other.false in
     let p_above = other_form.above in
     let others = other_form.sizes in
-    let other_at = whole_at g.N.Exact.rational c.other.inside.is_whole c.other.inside.denominator c.other.inside.words.items c.other.inside.fractions.items c.args.other.now c.other.view_is c.if-not-other.false p_above in
+    let other_at = whole_at c.other.inside.is_whole c.other.inside.denominator c.other.inside.words.items c.other.inside.long c.args.other.now c.other.view_is c.if-not-other.false p_above in
     let number = number_in c.self.inside.words.items c.args.column in
     let fits : FitsSigned w64 (number_in c.as_slice.result.now c.args.column) = fits_signed_from_abs w64 _ (rw c.as_slice.ensures.value (number_in_word g.N.Exact.WIDTH c.self.inside.denominator c.self.inside.bound c.self.inside.words.items (c.self.invariant.form c.if-not-self.false) c.args.column)) in
     let clears : c.multiples_for-multiples.result.other *ℤ pos c.other.inside.denominator ≡ number_in c.self.inside.words.items c.args.column *ℤ pos c.multiples_for-multiples.result.own =
     c.multiples_for-multiples.ensures.clears ∙ ap (λ z. z *ℤ pos c.multiples_for-multiples.result.own) (to_z-of_z fits ∙ ap (λ xs. number_in xs c.args.column) c.as_slice.ensures.value) in
-    let narrow : c.word_limit.result ≤ limit_of g.N.Exact.WIDTH = rw c.word_limit.ensures (below_width g.N.Exact.WIDTH) in
     let ys = c.replace.new.numbers in
     let new : (j : ℕ) → number_in c.replace.new.numbers j ≡ (number_in c.self.inside.words.items j *ℤ pos c.multiples_for-multiples.result.own) -ℤ (c.multiples_for-multiples.result.other *ℤ number_in c.other.inside.words.items j) = λ j.
     c.replace.ensures j ∙ ap₂ (λ x z. (x *ℤ pos c.multiples_for-multiples.result.own) -ℤ (c.multiples_for-multiples.result.other *ℤ z)) (ap (λ xs. number_in xs j) c.as_mut_slice.ensures.value) (ap (λ xs. number_in xs j) c.as_slice-others.ensures.value) in
     let same : length c.replace.new.numbers ≡ length c.self.inside.words.items = c.replace.auto.numbers ∙ ap length c.as_mut_slice.ensures.value in
     let held = a.words.ok.0 in
-    subst (λ z. IsLine g.N.Exact.WIDTH a.is_whole sizes.denominator sizes.bound z (length a.fractions.items)) (sym (with_items_is a.words ys (omega (arith, same, held))))
-    (reduce_inv g.N.Exact.rational g.N.Exact.WIDTH c.self.inside.is_whole c.self.inside.denominator c.self.inside.bound c.self.inside.words.items c.self.inside.fractions.items c.args.self.now c.self.view_is c.self.invariant c.if-not-self.false c.other.inside.denominator c.other.inside.bound c.other.inside.words.items c.args.other.now p_above others other_at c.args.column c.multiples_for-multiples.result.own c.multiples_for-multiples.result.other number refl c.multiples_for-multiples.ensures.own clears limit sizes.bound sizes.denominator narrow c.in-Some.ensures.bound c.in-Some.ensures.denominator c.in-Some.ensures.below.0 c.in-Some.ensures.below.1 ys new c.word_limit.ensures same)
+    subst (λ z. IsLine (word_limit g.N.Exact.WIDTH) a.is_whole sizes.denominator sizes.bound z (length a.long)) (sym (with_items_is a.words ys (omega (arith, same, held))))
+    (reduce_inv g.N.Exact.WIDTH (word_limit g.N.Exact.WIDTH) (below_width g.N.Exact.WIDTH) c.self.inside.is_whole c.self.inside.denominator c.self.inside.bound c.self.inside.words.items c.self.inside.long c.args.self.now c.self.view_is c.self.invariant c.if-not-self.false c.other.inside.denominator c.other.inside.bound c.other.inside.words.items c.args.other.now p_above others other_at c.args.column c.multiples_for-multiples.result.own c.multiples_for-multiples.result.other number refl c.multiples_for-multiples.ensures.own clears limit sizes.bound sizes.denominator c.word_limit.ensures c.in-Some.ensures.bound c.in-Some.ensures.denominator c.in-Some.ensures.below.0 c.in-Some.ensures.below.1 ys new same)
 
 pub returns-clause-fits : goal.returns-clause-fits
 returns-clause-fits g c = λ j.
@@ -69,18 +67,17 @@ returns-clause-fits g c = λ j.
     let other_form = c.other.invariant.form c.if-not-other.false in
     let p_above = other_form.above in
     let others = other_form.sizes in
-    let other_at = whole_at g.N.Exact.rational c.other.inside.is_whole c.other.inside.denominator c.other.inside.words.items c.other.inside.fractions.items c.args.other.now c.other.view_is c.if-not-other.false p_above in
+    let other_at = whole_at c.other.inside.is_whole c.other.inside.denominator c.other.inside.words.items c.other.inside.long c.args.other.now c.other.view_is c.if-not-other.false p_above in
     let number = number_in c.self.inside.words.items c.args.column in
     let fits : FitsSigned w64 (number_in c.as_slice.result.now c.args.column) = fits_signed_from_abs w64 _ (rw c.as_slice.ensures.value (number_in_word g.N.Exact.WIDTH c.self.inside.denominator c.self.inside.bound c.self.inside.words.items (c.self.invariant.form c.if-not-self.false) c.args.column)) in
     let clears : c.multiples_for-multiples.result.other *ℤ pos c.other.inside.denominator ≡ number_in c.self.inside.words.items c.args.column *ℤ pos c.multiples_for-multiples.result.own =
     c.multiples_for-multiples.ensures.clears ∙ ap (λ z. z *ℤ pos c.multiples_for-multiples.result.own) (to_z-of_z fits ∙ ap (λ xs. number_in xs c.args.column) c.as_slice.ensures.value) in
-    let narrow : c.word_limit.result ≤ limit_of g.N.Exact.WIDTH = rw c.word_limit.ensures (below_width g.N.Exact.WIDTH) in
     let ys = c.replace.new.numbers in
     let new : (j : ℕ) → number_in c.replace.new.numbers j ≡ (number_in c.self.inside.words.items j *ℤ pos c.multiples_for-multiples.result.own) -ℤ (c.multiples_for-multiples.result.other *ℤ number_in c.other.inside.words.items j) = λ j.
     c.replace.ensures j ∙ ap₂ (λ x z. (x *ℤ pos c.multiples_for-multiples.result.own) -ℤ (c.multiples_for-multiples.result.other *ℤ z)) (ap (λ xs. number_in xs j) c.as_mut_slice.ensures.value) (ap (λ xs. number_in xs j) c.as_slice-others.ensures.value) in
     let same : length c.replace.new.numbers ≡ length c.self.inside.words.items = c.replace.auto.numbers ∙ ap length c.as_mut_slice.ensures.value in
     let held = a.words.ok.0 in
-    reduce_fits g.N.Exact.rational g.N.Exact.WIDTH c.self.inside.is_whole c.self.inside.denominator c.self.inside.bound c.self.inside.words.items c.self.inside.fractions.items c.args.self.now c.self.view_is c.self.invariant c.if-not-self.false c.other.inside.denominator c.other.inside.bound c.other.inside.words.items c.args.other.now p_above others other_at c.args.column c.multiples_for-multiples.result.own c.multiples_for-multiples.result.other number refl c.multiples_for-multiples.ensures.own clears limit sizes.bound sizes.denominator narrow c.in-Some.ensures.bound c.in-Some.ensures.denominator c.in-Some.ensures.below.0 c.in-Some.ensures.below.1 ys new j
+    reduce_fits g.N.Exact.WIDTH (word_limit g.N.Exact.WIDTH) (below_width g.N.Exact.WIDTH) c.self.inside.is_whole c.self.inside.denominator c.self.inside.bound c.self.inside.words.items c.self.inside.long c.args.self.now c.self.view_is c.self.invariant c.if-not-self.false c.other.inside.denominator c.other.inside.bound c.other.inside.words.items c.args.other.now p_above others other_at c.args.column c.multiples_for-multiples.result.own c.multiples_for-multiples.result.other number refl c.multiples_for-multiples.ensures.own clears limit sizes.bound sizes.denominator c.word_limit.ensures c.in-Some.ensures.bound c.in-Some.ensures.denominator c.in-Some.ensures.below.0 c.in-Some.ensures.below.1 ys new j
 
 pub returns-clause-reduced : goal.returns-clause-reduced
 returns-clause-reduced g c = λ j.
@@ -90,16 +87,15 @@ returns-clause-reduced g c = λ j.
     let other_form = c.other.invariant.form c.if-not-other.false in
     let p_above = other_form.above in
     let others = other_form.sizes in
-    let other_at = whole_at g.N.Exact.rational c.other.inside.is_whole c.other.inside.denominator c.other.inside.words.items c.other.inside.fractions.items c.args.other.now c.other.view_is c.if-not-other.false p_above in
+    let other_at = whole_at c.other.inside.is_whole c.other.inside.denominator c.other.inside.words.items c.other.inside.long c.args.other.now c.other.view_is c.if-not-other.false p_above in
     let number = number_in c.self.inside.words.items c.args.column in
     let fits : FitsSigned w64 (number_in c.as_slice.result.now c.args.column) = fits_signed_from_abs w64 _ (rw c.as_slice.ensures.value (number_in_word g.N.Exact.WIDTH c.self.inside.denominator c.self.inside.bound c.self.inside.words.items (c.self.invariant.form c.if-not-self.false) c.args.column)) in
     let clears : c.multiples_for-multiples.result.other *ℤ pos c.other.inside.denominator ≡ number_in c.self.inside.words.items c.args.column *ℤ pos c.multiples_for-multiples.result.own =
     c.multiples_for-multiples.ensures.clears ∙ ap (λ z. z *ℤ pos c.multiples_for-multiples.result.own) (to_z-of_z fits ∙ ap (λ xs. number_in xs c.args.column) c.as_slice.ensures.value) in
-    let narrow : c.word_limit.result ≤ limit_of g.N.Exact.WIDTH = rw c.word_limit.ensures (below_width g.N.Exact.WIDTH) in
     let ys = c.replace.new.numbers in
     let new : (j : ℕ) → number_in c.replace.new.numbers j ≡ (number_in c.self.inside.words.items j *ℤ pos c.multiples_for-multiples.result.own) -ℤ (c.multiples_for-multiples.result.other *ℤ number_in c.other.inside.words.items j) = λ j.
     c.replace.ensures j ∙ ap₂ (λ x z. (x *ℤ pos c.multiples_for-multiples.result.own) -ℤ (c.multiples_for-multiples.result.other *ℤ z)) (ap (λ xs. number_in xs j) c.as_mut_slice.ensures.value) (ap (λ xs. number_in xs j) c.as_slice-others.ensures.value) in
     let same : length c.replace.new.numbers ≡ length c.self.inside.words.items = c.replace.auto.numbers ∙ ap length c.as_mut_slice.ensures.value in
     let held = a.words.ok.0 in
-    ap (λ z. at (line_of g.N.Exact.rational a.is_whole sizes.denominator z a.fractions.items) j) (with_items_is a.words ys (omega (arith, same, held)))
-    ∙ reduce_is g.N.Exact.rational g.N.Exact.WIDTH c.self.inside.is_whole c.self.inside.denominator c.self.inside.bound c.self.inside.words.items c.self.inside.fractions.items c.args.self.now c.self.view_is c.self.invariant c.if-not-self.false c.other.inside.denominator c.other.inside.bound c.other.inside.words.items c.args.other.now p_above others other_at c.args.column c.multiples_for-multiples.result.own c.multiples_for-multiples.result.other number refl c.multiples_for-multiples.ensures.own clears limit sizes.bound sizes.denominator narrow c.in-Some.ensures.bound c.in-Some.ensures.denominator c.in-Some.ensures.below.0 c.in-Some.ensures.below.1 ys new j
+    ap (λ z. at (line_of a.is_whole sizes.denominator z a.long) j) (with_items_is a.words ys (omega (arith, same, held)))
+    ∙ reduce_is g.N.Exact.WIDTH (word_limit g.N.Exact.WIDTH) (below_width g.N.Exact.WIDTH) c.self.inside.is_whole c.self.inside.denominator c.self.inside.bound c.self.inside.words.items c.self.inside.long c.args.self.now c.self.view_is c.self.invariant c.if-not-self.false c.other.inside.denominator c.other.inside.bound c.other.inside.words.items c.args.other.now p_above others other_at c.args.column c.multiples_for-multiples.result.own c.multiples_for-multiples.result.other number refl c.multiples_for-multiples.ensures.own clears limit sizes.bound sizes.denominator c.word_limit.ensures c.in-Some.ensures.bound c.in-Some.ensures.denominator c.in-Some.ensures.below.0 c.in-Some.ensures.below.1 ys new j

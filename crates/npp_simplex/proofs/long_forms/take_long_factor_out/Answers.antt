@@ -1,0 +1,10 @@
+use Rattle.npp_simplex.proofs.CommonForms.{quotient_above}
+use Rattle.npp_simplex.proofs.WordForms.{factor_out}
+use Rattle.npp_simplex.proofs.long_forms.take_long_factor_out.Goals as goal
+
+pub returns-clause-same : goal.returns-clause-same
+returns-clause-same c =
+    let d = c.args.denominator in
+    let f = c.factor_of_long-factor.result in
+    let h = c.factor_of_long-factor.ensures in
+    factor_out d f c.args.numbers.now c.divide_each_long.new.numbers c.requires.positive h.above c.divide_each_long.auto.numbers h.of_numbers h.of_denominator c.divide_each_long.ensures (quotient_above d f c.requires.positive h.above h.of_denominator)
