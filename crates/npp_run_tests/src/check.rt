@@ -1,17 +1,14 @@
 //! Runs of `check`, on an instance and a certificate.
 
-use crate::fixtures::{
-    CEILING, THREE_PAIRS, TWO_ROADS, TWO_ROADS_CERTIFICATE, expect_run, two_files, words,
-};
+use crate::fixtures::{CEILING, expect_run, two_files, words};
 use npp_cli::run;
+use npp_fixtures::{
+    THREE_PAIRS, THREE_PAIRS_CERTIFICATE, TWO_ROADS, TWO_ROADS_CERTIFICATE, with_lines,
+};
 use npp_outside::{MemoryShelf, MemorySink, SureShelf, SureSink};
 use std::alloc::Global;
 use std::process::Abort;
 use std::test::Fail;
-
-// Of one opened node, whose dual answer was found by hand.
-const THREE_PAIRS_CERTIFICATE: &str =
-    "npp-certificate 1\nstatus budget\nwidth 64\nlower 15\nupper 78/5\nopened 1\ntoll 0 3\npath 0 2 3 1 0\npath 1 2 3 3 0\npath 2 2 3 5 0\ncover 0 3\nstart\nstep 0 1\nstep 1 0\nfree 2\ncover 1 3\nstart\nstep 0 3\nstep 1 0\nfree 4\ncover 2 3\nstart\nstep 0 5\nstep 1 0\nfree 6\ncuts 0\ntree\ndual 6\ny below 0 0 1\ny below 0 1 19/20\ny use 0 1 1/5\ny use 0 2 24/5\ny link 0 1 3/20\ny link 0 2 9/5\nsplit 2 1\nopen\nopen\nend\n";
 
 // A run of `check` on these two files: its status and what is written are these.
 fn expect(
@@ -24,23 +21,6 @@ fn expect(
 ) -> Result<(), Fail> {
     let shelf = two_files(instance, "certificate", certificate);
     expect_run(rt, alloc, "check file certificate", shelf, status, written)
-}
-
-// The lines of a text, of which those from one number to another, both counted from 1, are replaced by others.
-fn changed(alloc: Global, text: &str, from: usize, to: usize, lines: &str) -> Result<String, Fail> {
-    let mut all = String::new(alloc);
-    let mut number = 0_usize;
-    for line in text.lines() {
-        number = number.saturating_add(1);
-        if number == from {
-            all.push_str(lines)?;
-        }
-        if number < from || to < number {
-            all.push_str(line)?;
-            all.push_str("\n")?;
-        }
-    }
-    Ok(all)
 }
 
 #[test]
@@ -87,7 +67,7 @@ fn changes_of_a_small_certificate(rt: HostRuntime) -> Result<(), Fail> {
     ];
     let alloc = rt.alloc();
     for (from, to, lines, named) in rows {
-        let certificate = changed(alloc, TWO_ROADS_CERTIFICATE, from, to, lines)?;
+        let certificate = with_lines(alloc, TWO_ROADS_CERTIFICATE, from, to, lines)?;
         let written = format!(in alloc; "refused certificate line {named}\n")?;
         expect(
             &rt,
@@ -125,7 +105,7 @@ fn changes_of_a_dual_answer(rt: HostRuntime) -> Result<(), Fail> {
     ];
     let alloc = rt.alloc();
     for (from, to, lines, named) in rows {
-        let certificate = changed(alloc, THREE_PAIRS_CERTIFICATE, from, to, lines)?;
+        let certificate = with_lines(alloc, THREE_PAIRS_CERTIFICATE, from, to, lines)?;
         let written = format!(in alloc; "refused certificate line {named}\n")?;
         expect(
             &rt,
@@ -159,7 +139,7 @@ fn other_refusals(rt: HostRuntime) -> Result<(), Fail> {
 #[test]
 fn a_line_is_judged_before_more_is_asked_for(rt: HostRuntime) -> Result<(), Fail> {
     let alloc = rt.alloc();
-    let spoiled = changed(alloc, TWO_ROADS_CERTIFICATE, 1, 1, "npp-certificate 3\n")?;
+    let spoiled = with_lines(alloc, TWO_ROADS_CERTIFICATE, 1, 1, "npp-certificate 3\n")?;
     let rows = [
         (spoiled.as_str(), 9, "refused certificate line 1 Text\n"),
         (TWO_ROADS_CERTIFICATE, 5, "shelf fault c\n"),
@@ -181,7 +161,7 @@ fn a_ceiling(rt: HostRuntime) -> Result<(), Fail> {
     let solve_words = words(alloc, "solve file")?;
     assert_eq!(rt; run(alloc, &solve_words, &mut shelf, &mut out), 0);
     let certificate = std::str::from_utf8(out.written())?;
-    let above = changed(alloc, certificate, 9, 9, "toll 0 4\n")?;
+    let above = with_lines(alloc, certificate, 9, 9, "toll 0 4\n")?;
     let rows = [
         (CEILING, certificate, 0, "accepted lower 15 upper 15\n"),
         (

@@ -1,7 +1,8 @@
 //! Runs of `eval`, on an instance and a tolls text.
 
-use crate::fixtures::{RING, THREE_PAIRS, TwoFiles, USAGE, chain, two_files};
+use crate::fixtures::{RING, TwoFiles, USAGE, chain, two_files};
 use npp_cli::run;
+use npp_fixtures::THREE_PAIRS;
 use npp_outside::SureSink;
 use std::alloc::Global;
 use std::fmt::Write;

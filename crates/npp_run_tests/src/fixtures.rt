@@ -9,19 +9,8 @@ use std::fmt::Write;
 use std::process::Abort;
 use std::test::Fail;
 
-/// A toll-free arc and a toll arc beside it.
-pub const TWO_ROADS: &str = "npp 1\nnode a\nnode b\nfree a b 10\ntoll a b 2\npair a b 5\n";
-
-/// The certificate of these: the root is not opened.
-pub const TWO_ROADS_CERTIFICATE: &str =
-    "npp-certificate 1\nstatus optimal\nwidth 64\nlower 40\nupper 40\nopened 0\ntoll 0 8\npath 0 2 8 1\ncover 0 2\nstart\nstep 0 1\nfree 0\ncuts 0\ntree\nopen\nend\n";
-
-/// The same two roads, where the toll is at most 3.
+/// The two roads of `TWO_ROADS`, where the toll is at most 3.
 pub const CEILING: &str = "npp 2\nnode a\nnode b\nfree a b 10\ntoll a b 2 3\npair a b 5\n";
-
-/// One toll arc that three commodities may use, each with a toll-free arc of its own.
-pub const THREE_PAIRS: &str =
-    "npp 1\nnode a\nnode b\nnode p\nnode q\nnode r\ntoll a b 2\nfree p a 0\nfree p b 10\nfree q a 0\nfree q b 8\nfree r a 0\nfree r b 5\npair p b 1\npair q b 1\npair r b 3\n";
 
 /// Three toll arcs in a ring, of which each commodity may use two.
 pub const RING: &str =

@@ -1,8 +1,9 @@
 //! Runs on one file, and on a shelf and a sink that fail.
 ghost use Rattle.std.specs.Prelude.{None};
 
-use crate::fixtures::{RING, THREE_PAIRS, TWO_ROADS, TWO_ROADS_CERTIFICATE, USAGE, chain, words};
+use crate::fixtures::{RING, USAGE, chain, words};
 use npp_cli::run;
+use npp_fixtures::{THREE_PAIRS, TWO_ROADS, TWO_ROADS_CERTIFICATE};
 use npp_outside::{Shelf, ShelfAnswer, Sink, SinkAnswer, SureShelf, SureSink};
 use std::alloc::Global;
 use std::fmt::Write;

@@ -1,8 +1,9 @@
 //! Runs of `upgrade`, on an instance and a certificate.
 ghost use Rattle.std.specs.Prelude.{None};
 
-use crate::fixtures::{CEILING, TWO_ROADS, TWO_ROADS_CERTIFICATE, expect_run, two_files, words};
+use crate::fixtures::{CEILING, expect_run, two_files, words};
 use npp_cli::run;
+use npp_fixtures::{TWO_ROADS, TWO_ROADS_CERTIFICATE};
 use npp_outside::{Shelf, ShelfAnswer, SureSink};
 use npp_reader::read;
 use npp_upgrade::upgrade;
