@@ -9,11 +9,11 @@ ghost use Rattle.npp_inverse.specs.Offers.{HasUsefulPaths};
 use crate::text::text_of;
 use npp_cover::Cover;
 use npp_frac::{Exact, print_fraction};
-use npp_leaf::{LeafWork, evidence_for};
+use npp_leaf::{LeafWork, evidence_in};
 use npp_lp::{Program, check_dual};
 use npp_net::{Instance, Listed, Memory};
 use npp_rows::{Allowed, CutRow, Derivation, Multiplier, PathTable, RelaxationIndex, RowName};
-use npp_simplex::{Answer, solve};
+use npp_simplex::{Answer, Workspace, solve_in};
 use npp_tree::{Bound, Evidence};
 use std::alloc::Global;
 
@@ -55,7 +55,8 @@ pub fn told<N: Exact>(
     told_of_node::<N>(alloc, &table, &allowed, stage, repeat)
 }
 
-/// What the stage tells of the node that allows these paths, the last time of so many.
+/// What the stage tells of the node that allows these paths, the last time of so many. Each time but the first has the memory
+/// of the time before, as the nodes of a search have.
 fn told_of_node<'a, N: Exact>(
     alloc: Global,
     table: &'a PathTable<'a>,
@@ -68,11 +69,12 @@ fn told_of_node<'a, N: Exact>(
     requires whole { allowed.now.parts ≡ all_paths table.now }
 {
     let index = RelaxationIndex::new(alloc, table, allowed)?;
+    let mut workspace = Workspace::<N>::new(alloc);
     match stage {
-        Stage::Evidence => Ok(found_often::<N>(alloc, table, allowed, repeat)),
+        Stage::Evidence => Ok(found_often(alloc, &mut workspace, table, allowed, repeat)),
         Stage::Round => Ok(rounded_often::<N>(alloc, &index, 1, repeat)),
         Stage::Rounds => Ok(rounded_often::<N>(alloc, &index, table.commodities(), repeat)),
-        _ => Ok(often_told::<N>(alloc, &index, stage, repeat)),
+        _ => Ok(often_told(alloc, &mut workspace, &index, stage, repeat)),
     }
 }
 
@@ -116,13 +118,14 @@ fn rounded_text<N: Exact>(
 /// What a stage tells of the relaxation, the last time of so many.
 fn often_told<N: Exact>(
     alloc: Global,
+    workspace: &mut Workspace<N>,
     index: &RelaxationIndex,
     stage: Stage,
     repeat: u32,
 ) -> Option<String> {
     let mut text = String::new(alloc);
     for _ in 0..repeat {
-        text = program_text::<N>(alloc, index, stage)?;
+        text = program_text(alloc, workspace, index, stage)?;
     }
     Some(text)
 }
@@ -130,6 +133,7 @@ fn often_told<N: Exact>(
 /// What is found at the node, the last time of so many.
 fn found_often<'a, N: Exact>(
     alloc: Global,
+    workspace: &mut Workspace<N>,
     table: &'a PathTable<'a>,
     allowed: &'a Allowed,
     repeat: u32,
@@ -139,7 +143,7 @@ fn found_often<'a, N: Exact>(
 {
     let mut text = String::new(alloc);
     for _ in 0..repeat {
-        text = found_text::<N>(alloc, table, allowed)?;
+        text = found_text(alloc, workspace, table, allowed)?;
     }
     Some(text)
 }
@@ -147,6 +151,7 @@ fn found_often<'a, N: Exact>(
 /// What is found at the node.
 fn found_text<'a, N: Exact>(
     alloc: Global,
+    workspace: &mut Workspace<N>,
     table: &'a PathTable<'a>,
     allowed: &'a Allowed,
 ) -> Option<String>
@@ -154,7 +159,7 @@ fn found_text<'a, N: Exact>(
     requires allowed { IsAllowed table.now allowed.now.parts }
 {
     let cuts = Vec::<CutRow<N>>::new(alloc);
-    let work: LeafWork<N> = evidence_for(alloc, table, allowed, &cuts).ok()?;
+    let work: LeafWork<N> = evidence_in(alloc, workspace, table, allowed, &cuts).ok()?;
     if let Evidence::Basic(mark) = &work.evidence {
         return format!(in alloc; "{mark:?}").ok();
     }
@@ -168,15 +173,23 @@ fn found_text<'a, N: Exact>(
 }
 
 /// What a stage tells of the relaxation.
-fn program_text<N: Exact>(alloc: Global, index: &RelaxationIndex, stage: Stage) -> Option<String> {
+fn program_text<N: Exact>(
+    alloc: Global,
+    workspace: &mut Workspace<N>,
+    index: &RelaxationIndex,
+    stage: Stage,
+) -> Option<String> {
     let cuts = Vec::<CutRow<N>>::new(alloc);
-    let program = index.program(alloc, &cuts).ok()?;
-    match stage {
+    let lists = workspace.program_lists(alloc);
+    let program = index.program_in(lists, alloc, &cuts).ok()?;
+    let text = match stage {
         Stage::Text => text_of(alloc, &program),
-        Stage::Run => run_text(alloc, &program),
-        Stage::Check => check_text(alloc, &program),
+        Stage::Run => run_text(alloc, workspace, &program),
+        Stage::Check => check_text(alloc, workspace, &program),
         _ => size_text(alloc, &program),
-    }
+    };
+    workspace.keep_program(program);
+    text
 }
 
 /// How large a program is.
@@ -190,8 +203,12 @@ fn size_text<N: Exact>(alloc: Global, program: &Program<N>) -> Option<String> {
 }
 
 /// How the run on a program ends.
-fn run_text<N: Exact>(alloc: Global, program: &Program<N>) -> Option<String> {
-    let answer = solve(alloc, program, CAP).ok()?;
+fn run_text<N: Exact>(
+    alloc: Global,
+    workspace: &mut Workspace<N>,
+    program: &Program<N>,
+) -> Option<String> {
+    let answer = solve_in(alloc, workspace, program, CAP).ok()?;
     answer_text(alloc, &answer)
 }
 
@@ -210,8 +227,12 @@ fn answer_text<N: Exact>(alloc: Global, answer: &Answer<N>) -> Option<String> {
 }
 
 /// What the check of the multipliers of a run gives.
-fn check_text<N: Exact>(alloc: Global, program: &Program<N>) -> Option<String> {
-    let answer = solve(alloc, program, CAP).ok()?;
+fn check_text<N: Exact>(
+    alloc: Global,
+    workspace: &mut Workspace<N>,
+    program: &Program<N>,
+) -> Option<String> {
+    let answer = solve_in(alloc, workspace, program, CAP).ok()?;
     let Answer::Optimal { y, .. } = answer else {
         return format!(in alloc; "no optimum").ok();
     };

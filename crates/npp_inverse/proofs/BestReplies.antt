@@ -51,22 +51,32 @@ no_more_revenue arcs t f (k ∷ ks) a (w ∷ ws) h c =
     let rest = no_more_revenue arcs t f ks (a + 1) ws (λ i v l b. let e : a + 1 + i ≡ a + suc i = omega arith in rw e (h (suc i) v (omega (arith, l)) b)) c.1 in
     omega (arith, rest, mul-le-mul_left k.demand here)
 
+-- ---- the path that is taken
+
+module _ (m : PathModel) (T : List Rational) (k : ℕ) (some : 0 < path_count m k) where
+  -- it is the first of the best
+  pub first_taken : IsFirstBest (path_price m T k) (path_toll m T k) (path_count m k) (taken_path m T k)
+  first_taken = first_best (path_price m T k) (path_toll m T k) (path_count m k) some
+
+  pub taken_inside : taken_path m T k < path_count m k
+  taken_inside = first_taken.below
+
+  -- no path is cheaper
+  pub taken_cheapest : (q : ℕ) → q < path_count m k → path_price m T k (taken_path m T k) ≤ℚ path_price m T k q
+  taken_cheapest q l = by (first_taken.best q l)
+    where
+      by : IsNoWorse (path_price m T k (taken_path m T k)) (path_toll m T k (taken_path m T k)) (path_price m T k q) (path_toll m T k q) → path_price m T k (taken_path m T k) ≤ℚ path_price m T k q
+      by (inl lt) = ≤ℚ_of_<ℚ lt
+      by (inr same) = ≤ℚ_of_≡ same.0
+
 -- ---- one commodity
 
 module _ (net : Network) (m : PathModel) (T : List Rational) (t : TollVector) (model : IsModelOf net m) (size : length T ≡ length m.caps) (has : HasTolls T t) (useful : HasUsefulPaths m) where
   module _ (k : ℕ) (u : k < length m.covers) where
     best : IsFirstBest (path_price m T k) (path_toll m T k) (path_count m k) (taken_path m T k)
-    best = first_best (path_price m T k) (path_toll m T k) (path_count m k) (useful.some k u)
+    best = first_taken m T k (useful.some k u)
 
-    -- the taken path is no dearer
-    no_dearer : (q : ℕ) → q < path_count m k → path_price m T k (taken_path m T k) ≤ℚ path_price m T k q
-    no_dearer q l = by (best.best q l)
-      where
-        by : IsNoWorse (path_price m T k (taken_path m T k)) (path_toll m T k (taken_path m T k)) (path_price m T k q) (path_toll m T k q) → path_price m T k (taken_path m T k) ≤ℚ path_price m T k q
-        by (inl lt) = ≤ℚ_of_<ℚ lt
-        by (inr same) = ≤ℚ_of_≡ same.0
-
-    -- and pays at least what a path pays that is no dearer than it
+    -- the taken path pays at least what a path pays that is no dearer than it
     pays_most : (q : ℕ) → q < path_count m k
         → t.denominator * (useful_path m k q).cost + set_toll t (useful_path m k q).tolls ≤ t.denominator * (useful_path m k (taken_path m T k)).cost + set_toll t (useful_path m k (taken_path m T k)).tolls
         → set_toll t (useful_path m k q).tolls ≤ set_toll t (useful_path m k (taken_path m T k)).tolls
@@ -81,7 +91,7 @@ module _ (net : Network) (m : PathModel) (T : List Rational) (t : TollVector) (m
         by (inr same) = le_of_mul-le-mul_right (omega (arith, le-Is (toll_is net m T t model size has k q) (toll_is net m T t model size has k (taken_path m T k)) same.1)) has.positive
 
     cheapest : IsCheapest net.arcs t (slice_index_or net.commodities k no_commodity).origin.0 (slice_index_or net.commodities k no_commodity).destination.0 (useful_path m k (taken_path m T k)).arcs
-    cheapest = cheapest_of net m T t model size has k u (taken_path m T k) best.below no_dearer
+    cheapest = cheapest_of net m T t model size has k u (taken_path m T k) best.below (taken_cheapest m T k (useful.some k u))
 
     earns_most : (walk : List ArcId) → IsCheapest net.arcs t (slice_index_or net.commodities k no_commodity).origin.0 (slice_index_or net.commodities k no_commodity).destination.0 walk
         → toll_paid net.arcs t walk ≤ toll_paid net.arcs t (useful_path m k (taken_path m T k)).arcs

@@ -50,7 +50,7 @@ pub enum Best<N> {
 /// They are the point of the run of the inverse program. The program is quiet at the width of `N` where its run and the
 /// sums of the check of its multipliers fit and, where it has a point, the reply to its tolls does too. Else it is `Loud`
 /// with the mark of the first of these that fails; it is never `Loud(Large)`. The choice of path 0 of each commodity always
-/// has tolls, since zero tolls will do. The run takes its memory from the workspace and leaves it there.
+/// has tolls, since zero tolls will do. The program and its run take their memory from the workspace and leave it there.
 pub fn best_tolls_in<N: Exact>(
     alloc: Global,
     workspace: &mut Workspace<N>,
@@ -63,8 +63,11 @@ pub fn best_tolls_in<N: Exact>(
     ensures proved { IfOk result (λ b. IsProvedBest N.rational table.now choice.now b) }
     ensures zero_choice { (net : Network) → IsModelOf net table.now → IsZeroChoice choice.now → IfOk result LeavesTolls }
 {
-    let program = table.inverse(alloc, choice)?;
-    match work_on_in(alloc, workspace, &program)? {
+    let lists = workspace.program_lists(alloc);
+    let program = table.inverse_in(lists, alloc, choice)?;
+    let work = work_on_in(alloc, workspace, &program)?;
+    workspace.keep_program(program);
+    match work {
         Work::Solved { x, y, value } => match reply_to(alloc, table, &x) {
             Ok(response) => Ok(Best::Found {
                 tolls: Tolls::of(x),

@@ -36,8 +36,8 @@ use std::alloc::Global;
 /// evidence is the mark of what does not fit first, and where a relaxation has over 1,000,000 rows times columns, `Large`.
 ///
 /// The value of Dual and Inverse is the optimum, and that of Farkas and NoInverse is Empty. The terms of each cut name useful
-/// paths, by rising commodity and path. The table and the workspace, which keeps the memory of the runs, are made once for
-/// all nodes of an instance; [`evidence`] makes its own.
+/// paths, by rising commodity and path. The table and the workspace, which keeps the memory of the programs and their runs,
+/// are made once for all nodes of an instance; [`evidence`] makes its own.
 pub fn evidence_in<'a, N: Exact>(
     alloc: Global,
     workspace: &mut Workspace<N>,

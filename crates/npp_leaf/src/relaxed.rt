@@ -33,12 +33,14 @@ pub(crate) fn family_work<N: Exact>(
     ensures { IfOk result (λ w. found_value N.rational w
         ≡ family_work (limit_of N.WIDTH) index.now.paths index.now.parts (map (cut_value N.rational) cuts.now)) }
 {
-    let program = match index.program_unless_large(alloc, cuts) {
+    let lists = workspace.program_lists(alloc);
+    let program = match index.program_in_unless_large(lists, alloc, cuts) {
         Ok(program) => program,
         Err(RelaxRefusal::Large) => return Ok(LeafWork::marked(Mark::Large)),
         Err(RelaxRefusal::Memory) => return Err(Memory),
     };
     let work = work_on_in(alloc, workspace, &program)?;
+    workspace.keep_program(program);
     found_by(alloc, index, cuts, work)
 }
 

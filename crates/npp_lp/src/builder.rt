@@ -3,7 +3,8 @@
 ghost use Rattle.std.specs.Prelude.{◌≡◌, ◌<◌, ◌≤◌, ◌++◌, [], length, IfOk, OnOk, OnErr};
 ghost use Rattle.npp_lp.specs.Building.{started, entry_at, with_entry, with_row, program_of};
 
-use crate::program::{Entry, Program};
+use crate::lists::ProgramLists;
+use crate::program::{Entry, Program, Span};
 use npp_frac::{Exact, Memory, is_zero};
 use std::alloc::Global;
 use std::marker::Model;
@@ -17,24 +18,28 @@ const MOST: usize = 1 << 31;
 /// What it gives is a program, whatever was written. Each call takes constant time, but for the growth of the lists.
 #[derive(Drop)]
 pub struct ProgramBuilder<N: Exact> {
-    alloc: Global,
     columns: u32,
-    rows: Vec<Vec<Entry<N>>>,
-    right: Vec<N>,
+    /// The entries of the rows that have ended, and behind them those of the row that is being written.
     entries: Vec<Entry<N>>,
+    spans: Vec<Span>,
+    right: Vec<N>,
+    /// A list for the goal, until it is taken.
+    goal: Vec<N>,
+    /// Where the entries of the row that is being written begin.
+    begin: usize,
     next: u32,
 }
 
 impl<N: Exact> Model for ProgramBuilder<N> {
-    ghost use Rattle.std.specs.Prelude.{◌≡◌, length};
-    ghost use Rattle.npp_lp.specs.ProgramOver.{written_rows};
+    ghost use Rattle.std.specs.Prelude.{◌≡◌, ◌≤◌, length, drop};
+    ghost use Rattle.npp_lp.specs.ProgramOver.{AreSpans, written_rows};
     ghost use Rattle.npp_lp.specs.Building.{Started, IsStarted};
 
     ghost Value = { Started N };
 
-    ghost view = { λ b. record { columns = b.columns; rows = written_rows b.rows.items b.right.items; entries = b.entries.items; next = b.next } };
+    ghost view = { λ b. record { columns = b.columns; rows = written_rows b.entries.items b.spans.items b.right.items; entries = drop b.begin b.entries.items; next = b.next } };
 
-    ghost invariant = { λ b. (length b.right.items ≡ length b.rows.items) × IsStarted N.rational (record { columns = b.columns; rows = written_rows b.rows.items b.right.items; entries = b.entries.items; next = b.next }) };
+    ghost invariant = { λ b. (length b.right.items ≡ length b.spans.items) × (b.begin ≤ length b.entries.items) × AreSpans b.begin b.spans.items × IsStarted N.rational (record { columns = b.columns; rows = written_rows b.entries.items b.spans.items b.right.items; entries = drop b.begin b.entries.items; next = b.next }) };
 }
 
 /// Writes what a row has in a column, unless it is 0.
@@ -60,15 +65,32 @@ impl<N: Exact> ProgramBuilder<N> {
     pub fn new(alloc: Global, columns: u32) -> Result<Self, Memory>
         ensures { IfOk result (λ b. b ≡ started columns) }
     {
+        ProgramBuilder::over(ProgramLists::empty(alloc), columns)
+    }
+
+    /// The same, in the memory of an earlier program.
+    pub fn over(lists: ProgramLists<N>, columns: u32) -> Result<Self, Memory>
+        ensures { IfOk result (λ b. b ≡ started columns) }
+    {
         if columns as usize >= MOST {
             return Err(Memory);
         }
+        let ProgramLists {
+            mut entries,
+            mut spans,
+            mut right,
+            goal,
+        } = lists;
+        entries.clear();
+        spans.clear();
+        right.clear();
         Ok(ProgramBuilder {
-            alloc,
             columns,
-            rows: Vec::new(alloc),
-            right: Vec::new(alloc),
-            entries: Vec::new(alloc),
+            entries,
+            spans,
+            right,
+            goal,
+            begin: 0,
             next: 0,
         })
     }
@@ -92,16 +114,28 @@ impl<N: Exact> ProgramBuilder<N> {
         ensures ok { OnOk result (self.new ≡ with_row self.old right) }
         ensures err { OnErr result (self.new ≡ self.old) }
     {
-        if self.rows.len() >= MOST - 1 - self.columns as usize {
+        if self.spans.len() >= MOST - 1 - self.columns as usize {
             return Err(Memory);
         }
-        self.rows.reserve(1)?;
+        self.spans.reserve(1)?;
         self.right.reserve(1)?;
-        let entries = mem::replace(&mut self.entries, Vec::new(self.alloc));
-        self.rows.push_reserved(entries);
+        let start = self.begin;
+        let end = self.entries.len();
+        self.spans.push_reserved(Span { start, end });
         self.right.push_reserved(right);
+        self.begin = end;
         self.next = 0;
         Ok(())
+    }
+
+    /// An empty list for the goal. The first one has the memory of an earlier goal.
+    pub fn goal_list(&mut self, alloc: Global) -> Vec<N>
+        ensures empty { result.items ≡ [] }
+        ensures same { self.new ≡ self.old }
+    {
+        let mut goal = mem::replace(&mut self.goal, Vec::new(alloc));
+        goal.clear();
+        goal
     }
 
     /// The program with the rows that were ended.
@@ -111,16 +145,18 @@ impl<N: Exact> ProgramBuilder<N> {
         ensures { result ≡ program_of self goal.items }
     {
         let ProgramBuilder {
-            alloc: _,
             columns,
-            rows,
+            entries,
+            spans,
             right,
-            entries: _,
+            goal: _,
+            begin: _,
             next: _,
         } = self;
         Program {
             columns,
-            rows,
+            entries,
+            spans,
             right,
             goal,
         }

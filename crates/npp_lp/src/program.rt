@@ -4,6 +4,7 @@ ghost use Rattle.std.specs.Prelude.{◌≡◌, ◌<◌, length, [], slice_index_
 ghost use Rattle.npp_lp.specs.ProgramOver.{lists_of, rights_of};
 ghost use Rattle.npp_lp.specs.Meaning.{IsProgram};
 
+use crate::lists::ProgramLists;
 use npp_frac::Exact;
 use std::marker::Model;
 
@@ -16,6 +17,13 @@ pub struct Entry<N> {
     pub value: N,
 }
 
+/// Where the entries of a row stand among those of all rows: from `start` on, before `end`.
+#[derive(Clone, Copy, Debug)]
+pub(crate) struct Span {
+    pub(crate) start: usize,
+    pub(crate) end: usize,
+}
+
 /// A linear program: the greatest `goal * x` over all `x >= 0` with `rows * x <= right`.
 ///
 /// The points `x` are over all rational numbers, whatever the width of `N`. The entries of a row stand in strictly rising
@@ -25,21 +33,24 @@ pub struct Entry<N> {
 #[derive(Debug, Drop)]
 pub struct Program<N: Exact> {
     pub(crate) columns: u32,
-    pub(crate) rows: Vec<Vec<Entry<N>>>,
+    /// The entries of all rows, one row behind the other.
+    pub(crate) entries: Vec<Entry<N>>,
+    /// The place of each row among them.
+    pub(crate) spans: Vec<Span>,
     pub(crate) right: Vec<N>,
     pub(crate) goal: Vec<N>,
 }
 
 impl<N: Exact> Model for Program<N> {
     ghost use Rattle.std.specs.Prelude.{◌≡◌, length};
-    ghost use Rattle.npp_lp.specs.ProgramOver.{ProgramOver, written_rows};
+    ghost use Rattle.npp_lp.specs.ProgramOver.{ProgramOver, AreSpans, written_rows};
     ghost use Rattle.npp_lp.specs.Meaning.{IsProgram};
 
     ghost Value = { ProgramOver N };
 
-    ghost view = { λ p. record { columns = p.columns; rows = written_rows p.rows.items p.right.items; goal = p.goal.items } };
+    ghost view = { λ p. record { columns = p.columns; rows = written_rows p.entries.items p.spans.items p.right.items; goal = p.goal.items } };
 
-    ghost invariant = { λ p. (length p.right.items ≡ length p.rows.items) × IsProgram N.rational (record { columns = p.columns; rows = written_rows p.rows.items p.right.items; goal = p.goal.items }) };
+    ghost invariant = { λ p. (length p.right.items ≡ length p.spans.items) × AreSpans (length p.entries.items) p.spans.items × IsProgram N.rational (record { columns = p.columns; rows = written_rows p.entries.items p.spans.items p.right.items; goal = p.goal.items }) };
 }
 
 impl<N: Exact> Program<N> {
@@ -58,7 +69,7 @@ impl<N: Exact> Program<N> {
         ensures rows { result ≡ length self.now.rows }
         ensures form { IsProgram N.rational self.now }
     {
-        self.rows.len()
+        self.spans.len()
     }
 
     /// The entries of a row.
@@ -67,7 +78,8 @@ impl<N: Exact> Program<N> {
         requires { row < length self.now.rows }
         ensures { result.now ≡ slice_index_or (lists_of self.now) row [] }
     {
-        &self.rows[row]
+        let Span { start, end } = self.spans[row];
+        &self.entries[start..end]
     }
 
     /// The right side of each row.
@@ -84,5 +96,22 @@ impl<N: Exact> Program<N> {
         ensures { result.now ≡ self.now.goal }
     {
         &self.goal
+    }
+
+    /// Its memory, for the next program.
+    pub fn into_lists(self) -> ProgramLists<N> {
+        let Program {
+            columns: _,
+            entries,
+            spans,
+            right,
+            goal,
+        } = self;
+        ProgramLists {
+            entries,
+            spans,
+            right,
+            goal,
+        }
     }
 }

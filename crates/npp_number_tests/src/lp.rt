@@ -60,8 +60,9 @@ fn dual_text<N: Exact>(alloc: Global, answer: Result<N, DualFault<N>>) -> Result
 /// What is said of a multiplier of the program of one row.
 fn dual<N: Exact>(alloc: Global, row: (i64, i64), multiplier: Number) -> Result<String, Fail> {
     let program = of_wholes::<N>(alloc, row)?;
-    let multiplier = ratio(multiplier).ok_or("no multiplier")?;
-    Ok(dual_text(alloc, check_dual(&program, &[multiplier]))?)
+    let mut multipliers = Vec::new(alloc);
+    multipliers.push(ratio(multiplier).ok_or("no multiplier")?)?;
+    Ok(dual_text(alloc, check_dual(&program, &multipliers))?)
 }
 
 /// Multipliers of 1/2, 1/3 and -1 of the row of 2 and 3.

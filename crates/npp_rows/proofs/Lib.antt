@@ -17,6 +17,7 @@ pub mod FoundLaws
 pub mod TakenLaws
 pub mod RoundingLaws
 pub mod TouchedLaws
+pub mod SpreadLaws
 pub mod ShareLaws
 pub mod ConflictLaws
 pub mod PairLaws

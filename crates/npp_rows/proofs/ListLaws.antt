@@ -1,5 +1,5 @@
 -- Lists of numbers in a row, and lists that agree place by place.
-use Rattle.std.proofs.Common.{◌≡◌, ℕ, zero, suc, ◌+◌, ◌<◌, ◌≤◌, inl, inr, eq-or-lt_of_le, Bool, true, false, cond, List, [], ◌∷◌, ◌++◌, length, map, take, get_or, filter, refl, sym, ap, ap₂, ◌∙◌, arith}
+use Rattle.std.proofs.Common.{◌≡◌, ℕ, zero, suc, ◌+◌, ◌<◌, ◌≤◌, inl, inr, eq-or-lt_of_le, Bool, cond, List, [], ◌∷◌, ◌++◌, length, map, take, get_or, filter, refl, sym, ap, ap₂, ◌∙◌, arith}
 use Rattle.std.specs.Prelude.{Option, Result, Ok, Err, OnOk, Contains, MatchOption}
 use Rattle.std.specs.Result.{result_ok}
 use Rattle.std.specs.Ordering.{nat_cmp}
@@ -36,12 +36,6 @@ zip_at R (x ∷ xs) (y ∷ ys) d e (suc k) h l = zip_at R xs ys d e k h.1 (omega
 -- a filter of numbers in a row, and one more
 pub filter_range_push : (test : ℕ → Bool) (n : ℕ) → filter test (range_with_len 0 (n + 1)) ≡ filter test (range_with_len 0 n) ++ cond (test n) (n ∷ []) []
 filter_range_push test n = ap (filter test) (range_push 0 n n (omega arith)) ∙ filter-append test (range_with_len 0 n) (n ∷ [])
-
--- a number that is taken where it passes
-pub taken_where : (test : ℕ → Bool) (n : ℕ) (xs ys : List ℕ) (b : Bool) → xs ≡ filter test (range_with_len 0 n) → b ≡ test n → ys ≡ cond b (xs ++ n ∷ []) xs
-    → ys ≡ filter test (range_with_len 0 (n + 1))
-taken_where test n xs ys true e t y = y ∙ rw (filter_range_push test n, e, ← t) refl
-taken_where test n xs ys false e t y = y ∙ rw (filter_range_push test n, e, ← t) (sym (append-nil (filter test (range_with_len 0 n))))
 
 -- numbers that rise strictly do not fall
 pub rising_ordered : (xs : List ℕ) → AllPairs (λ p q. p < q) xs → (i j : ℕ) → i ≤ j → j < length xs → get_or xs i 0 ≤ get_or xs j 0

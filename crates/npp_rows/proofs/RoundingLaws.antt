@@ -1,9 +1,8 @@
 -- The rounded sums of columns are the rounded combination of rows, and a cut row.
-use Rattle.std.proofs.Common.{◌≡◌, ◌≢◌, ◌⊎◌, ℕ, zero, suc, ◌+◌, ◌<◌, Bool, true, false, cond, List, [], ◌∷◌, ◌++◌, length, get_or, Option, Some, None, Result, Ok, Err, All, refl, sym, ap, ap₂, ◌∙◌, arith, inl, inr}
+use Rattle.std.proofs.Common.{◌≡◌, ◌≢◌, ℕ, suc, ◌+◌, ◌<◌, Bool, true, false, cond, List, [], ◌∷◌, ◌++◌, length, get_or, Option, Some, None, Result, Ok, Err, All, refl, sym, ap, ap₂, ◌∙◌, arith, inl, inr}
 use Rattle.std.specs.Prelude.{not, IsTrue}
 use Rattle.std.specs.List.{AllPairs}
 use Rattle.std.proofs.lemmas.Bool.{lt-ltb, eq-eqb, or_left, or_right, and_from}
-use Rattle.std.proofs.lemmas.List.{append_assoc, append-nil, length-append}
 use Rattle.std.proofs.lemmas.List.Elements.{All-append, All-cons, All-nil, All-head, All-tail}
 use Rattle.std.proofs.lemmas.List.Kept.{AllPairs-cons}
 use Rattle.npp_frac.specs.Rational.{Rational, zero_ℚ}
@@ -11,10 +10,9 @@ use Rattle.npp_frac.specs.Sign.{is_zero, is_zero_of}
 use Rattle.npp_frac.specs.Fits.{IsWidth, limit_of}
 use Rattle.npp_frac.specs.declared.refusal.Overflow.{Overflow as Stop}
 use Rattle.npp_lp.specs.Programs.{product_sum, row_of, at}
-use Rattle.npp_lp.specs.Duals.{coefficient, column_sum, right_value}
+use Rattle.npp_lp.specs.Duals.{coefficient, column_sum}
 use Rattle.npp_lp.specs.Sums.{checked_sum}
 use Rattle.npp_lp.specs.SumLaws.{checked_sum_parts}
-use Rattle.npp_lp.specs.Checked.{checked_column, checked_right}
 use Rattle.npp_lp.specs.Verdict.{or_else, first_below, sum_fault, unless}
 use Rattle.npp_lp.specs.VerdictLaws.{first_below_same, first_below_none}
 use Rattle.npp_lp.specs.RunningSums.{Sums, AreSumsOf, column_of}
@@ -29,7 +27,7 @@ use Rattle.npp_rows.specs.Parts.{IsAllowed}
 use Rattle.npp_rows.specs.RowOrder.{is_key_less, are_rows, are_in_order, multipliers_of, DoRise}
 use Rattle.npp_rows.specs.Places.{column_key}
 use Rattle.npp_rows.specs.Named.{NamedProgram, numbered}
-use Rattle.npp_rows.specs.Cuts.{Cut, IsCut, IsShareOf, is_share_before}
+use Rattle.npp_rows.specs.Cuts.{Cut, IsCut, is_share_before}
 use Rattle.npp_rows.specs.Relax.{relaxation_columns}
 use Rattle.npp_rows.specs.Rows.{HasColumn}
 use Rattle.npp_rows.specs.Derivations.{fault_if, is_share, column_at, toll_column_fault, share_column_fault, combination_fault, rounded, share_term, rounded_terms, round_cut}
@@ -38,17 +36,6 @@ use Rattle.npp_rows.specs.Rounding.{toll_fault_at, share_fault_at, rounding_faul
 use Rattle.npp_rows.proofs.TakenLaws.{column_named, right_named}
 use Rattle.npp_rows.proofs.KeyLaws.{RiseBy, less_tells, IsLess}
 use Rattle.npp_rows.proofs.RowPlaces.{relaxation_columns_rise, all_its_columns}
-
--- ---- one more column
-
-pub sums_push : (s : Sums Rational) (j : ℕ) (cs : List ColumnName) (c : ColumnName) (n : ℕ) → j + length cs ≡ n
-    → rounded_sums s j (cs ++ c ∷ []) ≡ rounded_sums s j cs ++ share_term c (rounded (sum_or_zero (column_of s n)))
-sums_push s j [] c n e =
-    let same : j ≡ n = omega (arith, e) in
-    append-nil (share_term c (rounded (sum_or_zero (column_of s j)))) ∙ ap (λ i. share_term c (rounded (sum_or_zero (column_of s i)))) same
-sums_push s j (d ∷ cs) c n e =
-    ap (λ t. share_term d (rounded (sum_or_zero (column_of s j))) ++ t) (sums_push s (j + 1) cs c n (omega (arith, e)))
-    ∙ sym (append_assoc (share_term d (rounded (sum_or_zero (column_of s j)))) (rounded_sums s (j + 1) cs) (share_term c (rounded (sum_or_zero (column_of s n)))))
 
 -- ---- the sums of the columns are those of the dense multipliers
 

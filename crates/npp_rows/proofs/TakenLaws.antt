@@ -126,6 +126,15 @@ module _ (p : NamedProgram) where
       subst (λ (zs : List (RowMultiplier Rational)). AreSumsOf m (numbered p) zs t) (sym (map_push (placed_one p.rows) ys y))
       (sums_of_more m (numbered p) (placed p.rows ys) (placed_one p.rows y) s t are whole)
 
+  -- the same of the row that the code has
+  pub sums_of_row : (m : ℕ) (ys : List (Multiplier Rational)) (y : Multiplier Rational) (s t : Sums Rational) (place : ℕ) (terms : List Term) (b : Rational) → row_place p.rows y.row ≡ Some place
+      → TakesRow m s t place terms b y.value → terms ≡ terms_from 0 (p.entry y.row) p.columns → b ≡ p.right y.row
+      → AreSumsOf m (numbered p) (placed p.rows ys) s → AreSumsOf m (numbered p) (placed p.rows (ys ++ y ∷ [])) t
+  sums_of_row m ys y s t place terms b e takes is side are =
+      sums_more m ys y s t place e
+      (subst (λ (ts : List Term). TakesRow m s t place ts (p.right y.row) y.value) is
+      (subst (λ (q : Rational). TakesRow m s t place terms q y.value) side takes)) are
+
 -- ---- names and places
 
 module _ (rows : List RowName) (rises : DoRise rows) where
@@ -258,9 +267,7 @@ module _ {N : Type 0} (value : N → Rational) (m : ℕ) (p : NamedProgram) wher
       → AreAdded value m p ys old → AreAdded value m p (ys ++ y ∷ []) new
   row_added ys y old new place terms b e takes is side last are = record {
     last = last ∙ sym (last_push ys y);
-    sums = sums_more p m ys y (sums_meant value old.sums) (sums_meant value new.sums) place e
-        (subst (λ (ts : List Term). TakesRow m (sums_meant value old.sums) (sums_meant value new.sums) place ts (p.right y.row) y.value) is
-        (subst (λ (q : Rational). TakesRow m (sums_meant value old.sums) (sums_meant value new.sums) place terms q y.value) side takes)) are.sums;
+    sums = sums_of_row p m ys y (sums_meant value old.sums) (sums_meant value new.sums) place terms b e takes is side are.sums;
   }
 
   -- one more multiplier is taken where it has no fault

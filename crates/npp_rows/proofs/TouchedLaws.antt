@@ -1,12 +1,12 @@
--- The columns in which the rows of a combination stand: each other column sums to 0.
-use Rattle.std.proofs.Common.{◌≡◌, ◌≢◌, ◌⊎◌, ℕ, zero, suc, ◌+◌, ◌<◌, ◌≤◌, true, false, List, [], ◌∷◌, ◌++◌, length, map, get_or, take, drop, Option, Some, None, Result, Ok, All, refl, sym, ap, ap₂, subst, ◌∙◌, arith, inl, inr, add-one, eqb, pos}
+-- The columns in which the rows of a combination stand, and a combination by its sums there.
+use Rattle.std.proofs.Common.{◌≡◌, ◌⊎◌, ℕ, zero, suc, ◌+◌, ◌<◌, ◌≤◌, true, false, List, [], ◌∷◌, ◌++◌, length, map, get_or, take, drop, Option, Some, None, Result, Ok, All, refl, sym, ap, ap₂, subst, ◌∙◌, arith, inl, inr, add-one, eqb, pos}
 use Rattle.std.specs.Prelude.{Contains, not}
-use Rattle.std.specs.List.{AllPairs, dedup, fold, flat_map}
+use Rattle.std.specs.List.{AllPairs, dedup, flat_map}
 use Rattle.std.specs.List.Sorted.{IsPermutation, IsSorted}
 use Rattle.std.specs.Ordering.{nat_cmp}
-use Rattle.std.proofs.lemmas.Bool.{cases_eq, and_parts}
+use Rattle.std.proofs.lemmas.Bool.{cases_eq}
 use Rattle.std.proofs.lemmas.Grind.{flat_map-append}
-use Rattle.std.proofs.lemmas.List.{get_or_default, get_or-drop, length-drop, take_more, append-nil}
+use Rattle.std.proofs.lemmas.List.{get_or_default, get_or-map, length-map, get_or-drop, length-drop, take_more, append-nil}
 use Rattle.std.proofs.Math.Seq.{drop-cons}
 use Rattle.std.proofs.lemmas.List.Elements.{All-append, All-map, All-nil, All-cons, All-head, All-tail, Contains-append_left, Contains-append_right}
 use Rattle.std.proofs.lemmas.List.Filters.{All-dedup}
@@ -16,64 +16,47 @@ use Rattle.std.proofs.lemmas.Map.Keys.{IsStrictlyIncreasing-dedup}
 use Rattle.npp_frac.specs.Rational.{Rational, zero_ℚ, whole}
 use Rattle.npp_frac.specs.Floor.{floor_whole}
 use Rattle.npp_frac.specs.Sign.{is_zero, is_zero_of}
-use Rattle.npp_frac.specs.Fits.{IsWidth, limit_of}
-use Rattle.npp_frac.specs.ZeroLaws.{FitsBelow-zero}
 use Rattle.npp_frac.specs.declared.refusal.Overflow.{Overflow as Stop}
-use Rattle.npp_lp.specs.declared.multiplier.RowMultiplier.{RowMultiplier}
 use Rattle.npp_lp.specs.declared.program.Entry.{Entry}
-use Rattle.npp_lp.specs.Programs.{Row, row_of}
-use Rattle.npp_lp.specs.Duals.{coefficient}
-use Rattle.npp_lp.specs.CoefficientLaws.{coefficient_absent}
-use Rattle.npp_lp.specs.Meaning.{terms_of}
+use Rattle.npp_lp.specs.Programs.{Term}
+use Rattle.npp_lp.specs.Meaning.{term_of, terms_of}
 use Rattle.npp_lp.specs.Verdict.{first_below}
 use Rattle.npp_lp.specs.VerdictLaws.{first_below_clear, first_below_found}
-use Rattle.npp_lp.specs.ZeroSums.{joined_sum-zero_left}
-use Rattle.npp_lp.specs.RunningSums.{Sums, column_of, joined, taken_sum, AreSumsOf}
+use Rattle.npp_lp.specs.RunningSums.{Sums, column_of}
 use Rattle.npp_rows.specs.declared.names.ColumnName.{ColumnName}
 use Rattle.npp_rows.specs.declared.names.ColumnName.TheVariants.{Toll, Share, Paid}
 use Rattle.npp_rows.specs.declared.names.Multiplier.{Multiplier}
 use Rattle.npp_rows.specs.declared.names.RowName.{RowName}
 use Rattle.npp_rows.specs.declared.cut.CutTerm.{CutTerm}
 use Rattle.npp_rows.specs.declared.cut.CutFault.TheVariants.{TollColumn}
-use Rattle.npp_rows.specs.RowOrder.{has_row, are_rows, DoRise}
+use Rattle.npp_rows.specs.Meaning.{multiplier_value}
+use Rattle.npp_rows.specs.RowOrder.{has_row}
 use Rattle.npp_rows.specs.Places.{row_place}
-use Rattle.npp_rows.specs.Named.{NamedProgram, numbered, terms_from}
-use Rattle.npp_rows.specs.Taken.{placed_one, placed}
+use Rattle.npp_rows.specs.Named.{NamedProgram, terms_from}
 use Rattle.npp_rows.specs.Derivations.{fault_if, column_at, rounded, share_term}
 use Rattle.npp_rows.specs.Rounding.{toll_fault, toll_fault_at, share_fault, share_fault_at, sum_or_zero, rounded_sums, term_in, StandOnlyIn, HoldSums}
 use Rattle.npp_rows.proofs.ListLaws.{rising_ordered}
-use Rattle.npp_rows.proofs.ProgramLaws.{row_named}
+use Rattle.npp_rows.proofs.SpreadLaws.{rising_tail}
 use Rattle.npp_rows.proofs.RowPlaces.{place_has, no_place_has}
-use Rattle.npp_rows.proofs.TakenLaws.{stands_placed, numbered_row, entries_inside}
+use Rattle.npp_rows.proofs.TakenLaws.{entries_inside}
 
 -- ---- the columns of rows
 
--- an entry stands in a column, or none does
-stands_or_not : {N : Type 0} (es : List (Entry N)) (j : ℕ) → (Contains (map (λ e. e.column) es) j) ⊎ (All (λ e. e.column ≢ j) es)
-stands_or_not [] j = inr (All-nil (λ e. e.column ≢ j))
-stands_or_not (e ∷ es) j = elim (cases_eq e.column j) [
-  | inl same ↦ inl (0, omega arith, same)
-  | inr other ↦ elim (stands_or_not es j) [
-    | inl here ↦ inl (suc here.0, omega (arith, here.1), here.2)
-    | inr none ↦ inr (All-cons (λ x. x.column ≢ j) e es other none)
-  ]
-]
-
 pub no_row_stands : (p : NamedProgram) → StandOnlyIn p [] []
-no_row_stands p j l = inr (All-nil (λ y. coefficient (terms_from 0 (p.entry y.row) p.columns) j ≡ zero_ℚ))
+no_row_stands p = All-nil (λ y. All (λ t. Contains [] t.column) (terms_from 0 (p.entry y.row) p.columns))
 
 -- one more row
 module _ {N : Type 0} (value : N → Rational) (p : NamedProgram) (y : Multiplier Rational) (es : List (Entry N)) (is : terms_of value es ≡ terms_from 0 (p.entry y.row) p.columns) where
   pub row_stands : (ys : List (Multiplier Rational)) (columns : List ℕ) → StandOnlyIn p ys columns → StandOnlyIn p (ys ++ y ∷ []) (columns ++ map (λ e. e.column) es)
-  row_stands ys columns h j l =
-      let Zero : Multiplier Rational → Type 0 = λ y. coefficient (terms_from 0 (p.entry y.row) p.columns) j ≡ zero_ℚ in
-      elim (stands_or_not es j) [
-        | inl here ↦ inl (Contains-append_right columns (map (λ e. e.column) es) j here)
-        | inr none ↦ elim (h j l) [
-          | inl before ↦ inl (Contains-append_left columns (map (λ e. e.column) es) j before)
-          | inr none_before ↦ inr (All-append Zero ys (y ∷ []) none_before (All-cons Zero y [] (ap (λ ts. coefficient ts j) (sym is) ∙ coefficient_absent value es j none) (All-nil Zero)))
-        ]
-      ]
+  row_stands ys columns h =
+      let both : List ℕ = columns ++ map (λ e. e.column) es in
+      let Stands : Term → Type 0 = λ t. Contains both t.column in
+      let Stand : Multiplier Rational → Type 0 = λ y. All Stands (terms_from 0 (p.entry y.row) p.columns) in
+      let here : All Stands (terms_of value es) = All-map Stands (term_of value) es (λ k d l. Contains-append_right columns (map (λ e. e.column) es) (get_or es k d).column
+      (k, omega (arith, l, length-map es (λ (e : Entry N). e.column)), get_or-map (λ (e : Entry N). e.column) es k d (get_or es k d).column l)) in
+      All-append Stand ys (y ∷ [])
+      (λ k d l. λ i e m. Contains-append_left columns (map (λ e. e.column) es) (get_or (terms_from 0 (p.entry (get_or ys k d).row) p.columns) i e).column (h k d l i e m))
+      (All-cons Stand y [] (rw is at here) (All-nil Stand))
 
   pub row_inside : (columns : List ℕ) → All (λ j. j < length p.columns) columns → All (λ j. j < length p.columns) (columns ++ map (λ e. e.column) es)
   row_inside columns h =
@@ -94,46 +77,20 @@ module _ (xs ys : List ℕ) (order : IsPermutation xs ys) where
   sorted_inside n h = All-dedup eqb (λ j. j < n) ys (All-permutation (λ j. j < n) xs ys order h)
 
   pub sorted_stand : (p : NamedProgram) (rows : List (Multiplier Rational)) → StandOnlyIn p rows xs → StandOnlyIn p rows (dedup eqb ys)
-  sorted_stand p rows h j l = elim (h j l) [
-    | inl here ↦ inl (Contains-dedup_nat ys j (Contains-permutation xs ys j order here))
-    | inr none ↦ inr none
-  ]
+  sorted_stand p rows h k d l = λ i e m.
+      let j : ℕ = (get_or (terms_from 0 (p.entry (get_or rows k d).row) p.columns) i e).column in
+      Contains-dedup_nat ys j (Contains-permutation xs ys j order (h k d l i e m))
 
--- ---- each other column sums to 0
-
--- products with 0 sum to 0
-zero_taken : (w : ℕ) → IsWidth w → (a : ℕ → Rational) (zs : List (RowMultiplier Rational)) → All (λ z. a z.row ≡ zero_ℚ) zs → taken_sum (limit_of w) a zs ≡ Ok zero_ℚ
-zero_taken w wide a [] h = refl
-zero_taken w wide a (z ∷ zs) h =
-    let first : joined (limit_of w) (Ok zero_ℚ) (a z.row) z.value ≡ Ok zero_ℚ = joined_sum-zero_left w zero_ℚ (a z.row) z.value wide (FitsBelow-zero w wide) (All-head (λ z. a z.row ≡ zero_ℚ) z zs h) in
-    ap (λ (s : Result Rational (Stop Rational)). fold (λ s y. joined (limit_of w) s (a y.row) y.value) s zs) first ∙ zero_taken w wide a zs (All-tail (λ z. a z.row ≡ zero_ℚ) z zs h)
-
-module _ (w : ℕ) (wide : IsWidth w) (p : NamedProgram) (rises : DoRise p.rows) where
-  zero_placed : (j : ℕ) (ys : List (Multiplier Rational)) → are_rows p.rows ys ≡ true → All (λ y. coefficient (terms_from 0 (p.entry y.row) p.columns) j ≡ zero_ℚ) ys
-      → All (λ z. coefficient (row_of (numbered p) z.row).terms j ≡ zero_ℚ) (placed p.rows ys)
-  zero_placed j [] are h = All-nil (λ z. coefficient (row_of (numbered p) z.row).terms j ≡ zero_ℚ)
-  zero_placed j (y ∷ ys) are h =
-      let two = and_parts (has_row p.rows y.row) (are_rows p.rows ys) are in
-      let row : row_of (numbered p) (placed_one p.rows y).row ≡ row_named p y.row = numbered_row p y.row (placed_one p.rows y).row (stands_placed p.rows rises y two.0) in
-      All-cons (λ z. coefficient (row_of (numbered p) z.row).terms j ≡ zero_ℚ) (placed_one p.rows y) (placed p.rows ys)
-      (ap (λ (r : Row). coefficient r.terms j) row ∙ All-head (λ y. coefficient (terms_from 0 (p.entry y.row) p.columns) j ≡ zero_ℚ) y ys h)
-      (zero_placed j ys two.1 (All-tail (λ y. coefficient (terms_from 0 (p.entry y.row) p.columns) j ≡ zero_ℚ) y ys h))
-
-  -- sums of rows are held by the columns in which the rows stand
-  pub columns_hold : (n : ℕ) (ys : List (Multiplier Rational)) (s : Sums Rational) (columns : List ℕ) → n ≡ length p.columns → are_rows p.rows ys ≡ true → AreSumsOf (limit_of w) (numbered p) (placed p.rows ys) s
-      → AllPairs (λ i j. i < j) columns → All (λ j. j < n) columns → StandOnlyIn p ys columns → HoldSums n s columns
-  columns_hold n ys s columns size are sums rising inside stand = record {
-    rising = rising;
-    inside = inside;
-    others = λ j l. elim (stand j (omega (arith, l, size))) [
-      | inl here ↦ inl here
-      | inr none ↦ inr (sums.columns j (omega (arith, l, size)) ∙ zero_taken w wide (λ i. coefficient (row_of (numbered p) i).terms j) (placed p.rows ys) (zero_placed j ys are none))
-    ];
-  }
-
--- a column that is read
-pub inside_at : (n : ℕ) (xs : List ℕ) (i j : ℕ) → All (λ k. k < n) xs → i < length xs → j ≡ get_or xs i j → j < n
-inside_at n xs i j all l is = let here : get_or xs i j < n = all i j l in omega (arith, here, is)
+-- the entries of a row that is named stand in these columns
+pub entries_stand : {N : Type 0} (value : N → Rational) (p : NamedProgram) (ms : List (Multiplier N)) (columns : List ℕ) (i : ℕ) (m : Multiplier N) (es : List (Entry N)) → StandOnlyIn p (map (multiplier_value value) ms) columns
+    → i < length ms → m ≡ get_or ms i m → terms_of value es ≡ terms_from 0 (p.entry m.row) p.columns → All (λ e. Contains columns e.column) es
+entries_stand value p ms columns i m es stand l here is k d inside =
+    let Stands : Term → Type 0 = λ t. Contains columns t.column in
+    let same : get_or (map (multiplier_value value) ms) i (multiplier_value value m) ≡ multiplier_value value m = get_or-map (multiplier_value value) ms i m (multiplier_value value m) l ∙ ap (multiplier_value value) (sym here) in
+    let terms : All Stands (terms_from 0 (p.entry m.row) p.columns) =
+    subst (λ (z : Multiplier Rational). All Stands (terms_from 0 (p.entry z.row) p.columns)) same (stand i (multiplier_value value m) (omega (arith, l, length-map ms (multiplier_value value)))) in
+    let entries : All Stands (terms_of value es) = rw (sym is) at terms in
+    rw (get_or-map (term_of value) es k d (term_of value d) inside) at (entries k (term_of value d) (omega (arith, inside, length-map es (term_of value))))
 
 -- ---- faults that are left
 
@@ -218,9 +175,6 @@ low_tail : (a x : ℕ) (xs : List ℕ) → AllPairs (λ p q. p < q) (x ∷ xs) �
 low_tail a x xs rising low k d l =
     let up : x < get_or xs k d = rising 0 (suc k) d (omega arith) (omega (arith, l)) in
     omega (arith, up, low)
-
-rising_tail : (x : ℕ) (xs : List ℕ) → AllPairs (λ p q. p < q) (x ∷ xs) → AllPairs (λ p q. p < q) xs
-rising_tail x xs rising a b d l k = rising (suc a) (suc b) d (omega (arith, l)) (omega (arith, k))
 
 module _ (names : List ColumnName) (s : Sums Rational) where
   -- columns from number j on

@@ -1,14 +1,16 @@
--- Two sets of tolls taken together, toll by toll.
-use Rattle.std.proofs.Common.{◌≡◌, ◌==◌, ◌<◌, ℕ, Bool, true, false, List, [], ◌∷◌, All, refl, sym, ap, subst, ◌∙◌, inl, inr, eq-eqb, eqb-true, arith}
+-- Two sets of tolls taken together, toll by toll, and the tolls of a set in a row.
+use Rattle.std.proofs.Common.{◌≡◌, ◌==◌, ◌+◌, ◌-◌, ◌<◌, ◌≤◌, ℕ, zero, suc, Bool, true, false, cond, ltb, List, [], ◌∷◌, ◌++◌, filter, All, refl, sym, ap, ap₂, subst, ◌∙◌, inl, inr, eq-eqb, eqb-true, arith}
 use Rattle.std.specs.Prelude.{◌||◌, ◌&&◌, ◌≢◌, ◌⊎◌}
 use Rattle.std.specs.Int.{bit_at}
 use Rattle.std.specs.List.{list_any, range_with_len}
-use Rattle.std.proofs.lemmas.Bool.{cases_eq, false_from_ne_true}
-use Rattle.std.proofs.lemmas.List.Elements.{All-filter, All-head, All-tail}
+use Rattle.std.proofs.lemmas.Bool.{cases_eq, false_from_ne_true, lt-ltb, le-ltb}
+use Rattle.std.proofs.lemmas.List.{append-nil}
+use Rattle.std.proofs.lemmas.List.Elements.{All-filter, All-head, All-tail, filter-append}
 use Rattle.std.proofs.lemmas.List.Folds.{list_any_at}
 use Rattle.std.proofs.lemmas.List.FromFn.{get_or-range_with_len, length-range_with_len}
 use Rattle.std.proofs.lemmas.Map.Views.{any-filter_same}
 use Rattle.npp_net.specs.TollSets.{Has, IsWithin, tolls_of}
+use Rattle.npp_rows.proofs.ListLaws.{filter_range_push}
 use Rattle.npp_rows.proofs.RelaxationLaws.{all_range}
 
 -- a toll of the one set or of the other
@@ -93,3 +95,39 @@ union_within set other within a = by (cases_eq (bit_at other a) 1)
     by (inr none) =
         let out : (bit_at other a == 1) ≡ false = false_from_ne_true (bit_at other a == 1) (λ t. none (eqb-true (bit_at other a) 1 t)) in
         sym (ap (λ b. (bit_at set a == 1) || b) out ∙ or_false (bit_at set a == 1))
+
+-- ---- the tolls of a set below a number
+
+module _ (n : ℕ) (f g : ℕ → Bool) where
+  one_below : (k : ℕ) → k < n → (b : Bool) → filter (λ a. ltb a n) (cond b (k ∷ []) []) ≡ cond b (k ∷ []) []
+  one_below k l true = let yes : ltb k n ≡ true = lt-ltb k n l in rw yes refl
+  one_below k l false = refl
+
+  none_above : (k : ℕ) → n ≤ k → (b : Bool) → filter (λ a. ltb a n) (cond b (k ∷ []) []) ≡ []
+  none_above k l true = let no : ltb k n ≡ false = le-ltb k n l in rw no refl
+  none_above k l false = refl
+
+  split_last : (k : ℕ) → filter (λ a. ltb a n) (filter f (range_with_len 0 (k + 1))) ≡ filter (λ a. ltb a n) (filter f (range_with_len 0 k)) ++ filter (λ a. ltb a n) (cond (f k) (k ∷ []) [])
+  split_last k = ap (filter (λ a. ltb a n)) (filter_range_push f k) ∙ filter-append (λ a. ltb a n) (filter f (range_with_len 0 k)) (cond (f k) (k ∷ []) [])
+
+  -- the numbers of a test that are below n, where it agrees with another there
+  filter_below : ((a : ℕ) → a < n → f a ≡ g a) → (k : ℕ) → k ≤ n → filter (λ a. ltb a n) (filter f (range_with_len 0 k)) ≡ filter g (range_with_len 0 k)
+  filter_below same zero l = refl
+  filter_below same (suc k) l =
+      let next : k + 1 ≡ suc k = omega arith in
+      subst (λ (m : ℕ). filter (λ a. ltb a n) (filter f (range_with_len 0 m)) ≡ filter g (range_with_len 0 m)) next
+      (split_last k ∙ ap₂ ◌++◌ (filter_below same k (omega arith)) (one_below k l (f k) ∙ ap (λ b. cond b (k ∷ []) []) (same k l)) ∙ sym (filter_range_push g k))
+
+  filter_beyond : (k : ℕ) → filter (λ a. ltb a n) (filter f (range_with_len 0 (n + k))) ≡ filter (λ a. ltb a n) (filter f (range_with_len 0 n))
+  filter_beyond zero = ap (λ m. filter (λ a. ltb a n) (filter f (range_with_len 0 m))) (omega arith)
+  filter_beyond (suc k) =
+      let next : n + suc k ≡ n + k + 1 = omega arith in
+      rw next (split_last (n + k) ∙ ap₂ ◌++◌ (filter_beyond k) (none_above (n + k) (omega arith) (f (n + k))) ∙ append-nil (filter (λ a. ltb a n) (filter f (range_with_len 0 n))))
+
+-- the tolls of a set that are below n
+pub tolls_below : (s n : ℕ) (g : ℕ → Bool) → n ≤ 128 → ((a : ℕ) → a < 128 → (bit_at s a == 1) ≡ g a) → filter (λ a. ltb a n) (tolls_of s) ≡ filter g (range_with_len 0 n)
+unfolding tolls_of
+tolls_below s n g l same =
+    let f : ℕ → Bool = λ a. bit_at s a == 1 in
+    let all : 128 ≡ n + (128 - n) = omega arith in
+    ap (λ m. filter (λ a. ltb a n) (filter f (range_with_len 0 m))) all ∙ filter_beyond n f g (128 - n) ∙ filter_below n f g (λ a h. same a (omega arith)) n (omega arith)

@@ -25,3 +25,4 @@ pub mod Taken
 pub mod TwoPaths
 pub mod Marks
 pub mod Rounding
+pub mod Spread

@@ -4,7 +4,6 @@ use Rattle.std.specs.List.{AllPairs}
 use Rattle.npp_frac.specs.Rational.{Rational, zero_ℚ}
 use Rattle.npp_frac.specs.Sign.{is_zero}
 use Rattle.npp_frac.specs.declared.refusal.Overflow.{Overflow as Stop}
-use Rattle.npp_lp.specs.Duals.{coefficient}
 use Rattle.npp_lp.specs.Verdict.{or_else, first_below, sum_fault}
 use Rattle.npp_lp.specs.RunningSums.{Sums, column_of}
 use Rattle.npp_rows.specs.declared.names.ColumnName.{ColumnName}
@@ -52,9 +51,9 @@ rounded_cut columns s = record { terms = rounded_sums s 0 columns; right = round
 abbrev pub term_in : List ColumnName → Sums Rational → ℕ → List (CutTerm Rational)
 term_in columns s j = share_term (column_at columns j) (rounded (sum_or_zero (column_of s j)))
 
--- some rows stand in no other columns of a program than these
+-- some rows stand in no other columns than these
 abbrev pub StandOnlyIn : NamedProgram → List (Multiplier Rational) → List ℕ → Type 0
-StandOnlyIn p ys columns = (j : ℕ) → j < length p.columns → (Contains columns j) ⊎ (All (λ y. coefficient (terms_from 0 (p.entry y.row) p.columns) j ≡ zero_ℚ) ys)
+StandOnlyIn p ys columns = All (λ y. All (λ t. Contains columns t.column) (terms_from 0 (p.entry y.row) p.columns)) ys
 
 -- some of n columns by rising number, outside of which all sums are 0
 pub record HoldSums (n : ℕ) (s : Sums Rational) (columns : List ℕ) : Type 0 where

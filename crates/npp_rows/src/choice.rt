@@ -1,6 +1,6 @@
 //! The best tolls of a choice: the program over the tolls alone under which the chosen paths are cheapest.
 
-ghost use Rattle.std.specs.Prelude.{◌≡◌, ◌<◌, ◌≤◌, ◌^◌, ◌++◌, ◌==◌, ℕ, pos, negsuc, nat_abs, List, length, map, Some, IfOk, OnOk, if◌then◌else◌};
+ghost use Rattle.std.specs.Prelude.{◌≡◌, ◌<◌, ◌≤◌, ◌^◌, ◌++◌, ◌==◌, ℕ, pos, negsuc, nat_abs, List, [], length, map, Some, IfOk, OnOk, if◌then◌else◌};
 ghost use Rattle.std.specs.List.{range_with_len};
 ghost use Rattle.std.specs.Int.{bit_at};
 ghost use Rattle.npp_frac.specs.Rational.{◌-ℚ◌};
@@ -27,7 +27,7 @@ use crate::table::PathTable;
 use crate::undercut::{push_undercut, undercut_right};
 use npp_cover::{Cover, UsefulPath};
 use npp_frac::Exact;
-use npp_lp::{Entry, Program, ProgramBuilder};
+use npp_lp::{Entry, Program, ProgramBuilder, ProgramLists};
 use npp_net::{Instance, Memory, TollId, TollSet};
 use std::alloc::Global;
 
@@ -60,15 +60,29 @@ impl PathTable<'_> {
         requires { IsChoice self.now choice.now }
         ensures { IfOk result (λ p. linear_program N.rational p ≡ numbered (inverse self.now choice.now)) }
     {
+        self.inverse_in(ProgramLists::empty(alloc), alloc, choice)
+    }
+
+    /// The same, in the memory of an earlier program.
+    pub fn inverse_in<N: Exact>(
+        &self,
+        lists: ProgramLists<N>,
+        alloc: Global,
+        choice: &[u32],
+    ) -> Result<Program<N>, Memory>
+        requires { IsChoice self.now choice.now }
+        ensures { IfOk result (λ p. linear_program N.rational p ≡ numbered (inverse self.now choice.now)) }
+    {
         let mut rows = Vec::new(alloc);
         push_singles(&mut rows, Single::Caps, self.tolls())?;
         push_follows(&mut rows, self)?;
-        build(alloc, self, choice, &rows)
+        build(lists, alloc, self, choice, &rows)
     }
 }
 
 /// The program of the rows of a choice.
 fn build<N: Exact>(
+    lists: ProgramLists<N>,
     alloc: Global,
     table: &PathTable,
     choice: &[u32],
@@ -78,16 +92,17 @@ fn build<N: Exact>(
     requires rows { rows.now ≡ choice_rows table.now (λ k. Some (chosen choice.now k)) }
     ensures { IfOk result (λ p. linear_program N.rational p ≡ numbered (inverse table.now choice.now)) }
 {
-    let mut program = match ProgramBuilder::new(alloc, table.tolls()) {
+    let mut program = match ProgramBuilder::over(lists, table.tolls()) {
         Ok(program) => program,
         Err(_) => return Err(Memory),
     };
+    let list = program.goal_list(alloc);
     let mut entries = Vec::new(alloc);
     for row in rows {
         write_choice_row(table, choice, *row, &mut entries)?;
         feed(&mut program, &entries, choice_right(table, choice, *row))?;
     }
-    let goal = choice_goal(alloc, table, choice)?;
+    let goal = choice_goal(list, table, choice)?;
     Ok(program.finish(goal))
 }
 
@@ -134,16 +149,16 @@ pub(crate) fn choice_right<N: Exact>(table: &PathTable, choice: &[u32], row: Row
     }
 }
 
-/// The goal of the inverse program of a choice.
+/// The goal of the inverse program of a choice, in a list that is empty.
 pub(crate) fn choice_goal<N: Exact>(
-    alloc: Global,
+    mut goal: Vec<N>,
     table: &PathTable,
     choice: &[u32],
 ) -> Result<Vec<N>, Memory>
-    requires { IsChoice table.now choice.now }
+    requires empty { goal.items ≡ [] }
+    requires choice { IsChoice table.now choice.now }
     ensures { IfOk result (λ v. map N.rational v.items ≡ map (revenue_goal table.now choice.now) (map toll_column (tolls table.now))) }
 {
-    let mut goal = Vec::new(alloc);
     for toll in 0..table.tolls() {
         goal.push(whole_number(payers(table, choice, TollId(toll))))?;
     }

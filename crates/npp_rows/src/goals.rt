@@ -19,7 +19,7 @@ impl RelaxationIndex<'_> {
         ensures { IfOk result (λ v. map N.rational v.items ≡ map (paid_goal self.now.paths) (relaxation_columns self.now.paths self.now.parts)) }
     {
         let columns = self.columns(alloc)?;
-        goal_of(alloc, self.table(), &columns)
+        goal_of(Vec::new(alloc), self.table(), &columns)
     }
 }
 
@@ -29,6 +29,6 @@ impl PathTable<'_> {
         requires { IsChoice self.now choice.now }
         ensures { IfOk result (λ v. map N.rational v.items ≡ map (inverse self.now choice.now).goal (inverse self.now choice.now).columns) }
     {
-        choice_goal(alloc, self, choice)
+        choice_goal(Vec::new(alloc), self, choice)
     }
 }

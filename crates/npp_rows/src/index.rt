@@ -17,7 +17,7 @@ use crate::search::piece_of;
 use crate::starts::list_starts;
 use crate::table::PathTable;
 use npp_cover::UsefulPath;
-use npp_net::{Listed, Memory, TollId, TollSet};
+use npp_net::{Listed, Memory, TollSet};
 use std::alloc::Global;
 use std::marker::Model;
 
@@ -162,7 +162,7 @@ fn used_tolls(
     Ok(used)
 }
 
-/// The tolls that paths of a part use, by rising number.
+/// The tolls that paths of a part use, by rising number. It takes the time of the paths and of their tolls.
 fn tolls_on(
     alloc: Global,
     tolls: u32,
@@ -173,11 +173,10 @@ fn tolls_on(
     requires part { All (λ p. p < length paths.now) part.now }
     ensures { IfOk result (λ v. v.items ≡ filter (λ a. list_any (λ p. bit_at (path_at (map path_value paths.now) p).tolls a == 1) part.now) (range_with_len 0 tolls)) }
 {
-    let set = tolls_of(paths, part);
     let mut on = Vec::new(alloc);
-    for toll in 0..tolls {
-        if set.has(TollId(toll)) {
-            on.push(toll)?;
+    for toll in tolls_of(paths, part).tolls() {
+        if toll.0 < tolls {
+            on.push(toll.0)?;
         }
     }
     Ok(on)

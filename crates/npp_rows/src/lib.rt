@@ -35,6 +35,7 @@ mod starts;
 mod table;
 mod toll_caps;
 mod touched;
+mod touched_sums;
 mod undercut;
 mod whole;
 

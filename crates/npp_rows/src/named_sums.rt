@@ -1,10 +1,9 @@
 //! Sums of named rows with their multipliers, without a program in memory.
 
-ghost use Rattle.std.specs.Prelude.{◌≡◌, ◌<◌, ◌≤◌, ◌⊎◌, ℕ, List, [], ◌∷◌, ◌++◌, Option, Some, None, length, map, All, IfOk, OnOk, OnErr, MatchResult};
+ghost use Rattle.std.specs.Prelude.{◌≡◌, ◌≤◌, ◌⊎◌, ℕ, List, [], ◌∷◌, ◌++◌, Option, Some, None, length, map, All, IfOk, OnOk, OnErr, MatchResult};
 ghost use Rattle.npp_frac.specs.Rational.{Rational};
 ghost use Rattle.npp_frac.specs.Fits.{limit_of};
-ghost use Rattle.npp_lp.specs.Meaning.{sum_result, dual_result, farkas_result};
-ghost use Rattle.npp_lp.specs.RunningSums.{sums_meant, column_of};
+ghost use Rattle.npp_lp.specs.Meaning.{dual_result, farkas_result};
 ghost use Rattle.npp_lp.specs.DualVerdict.{dual_verdict};
 ghost use Rattle.npp_lp.specs.FarkasVerdict.{farkas_verdict};
 ghost use Rattle.npp_rows.specs.declared.names.RowName.{RowName};
@@ -28,7 +27,7 @@ use crate::index::RelaxationIndex;
 use crate::multiplier_fault::MultiplierFault;
 use crate::names::{Multiplier, RowName};
 use crate::table::PathTable;
-use npp_frac::{Exact, Overflow, is_positive};
+use npp_frac::{Exact, is_positive};
 use npp_lp::{DualFault, Entry, FarkasFault, RunningSums};
 use npp_net::Memory;
 use std::alloc::Global;
@@ -111,7 +110,7 @@ impl<N: Exact> NamedSums<N> {
     }
 
     /// Adds a row of a relaxation with some cuts, which stands at this place, with its multiplier.
-    pub(crate) fn add(
+    fn add(
         &mut self,
         index: &RelaxationIndex,
         cuts: &[CutRow<N>],
@@ -209,21 +208,6 @@ impl<N: Exact> NamedSums<N> {
             .add_row(place, &self.entries, right, multiplier.value);
         self.last = Some(multiplier.row);
         Ok(())
-    }
-
-    /// The sum of a column, or its first operation that did not fit.
-    pub(crate) fn column(&self, column: u32) -> Result<N, Overflow<N>>
-        requires { column < length self.now.sums.columns }
-        ensures { sum_result N.rational result ≡ column_of (sums_meant N.rational self.now.sums) column }
-    {
-        self.sums.column(column)
-    }
-
-    /// The sum of the right sides, or its first operation that did not fit.
-    pub(crate) fn right(&self) -> Result<N, Overflow<N>>
-        ensures { sum_result N.rational result ≡ (sums_meant N.rational self.now.sums).right }
-    {
-        self.sums.right()
     }
 
     /// The value of the multipliers as a dual answer of their program, whose goal this is, or why they are none: what

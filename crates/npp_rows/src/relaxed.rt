@@ -1,6 +1,6 @@
 //! The relaxation over an allowed family.
 
-ghost use Rattle.std.specs.Prelude.{◌≡◌, ◌≤◌, ◌⊎◌, true, false, length, map, All, IfOk, MatchResult};
+ghost use Rattle.std.specs.Prelude.{◌≡◌, ◌≤◌, ◌⊎◌, [], true, false, length, map, All, IfOk, MatchResult};
 ghost use Rattle.npp_lp.specs.Meaning.{linear_program};
 ghost use Rattle.npp_rows.specs.declared.refusal.RelaxRefusal.{RelaxRefusal};
 ghost use Rattle.npp_rows.specs.Caps.{path_model};
@@ -25,7 +25,7 @@ use crate::size::is_large;
 use crate::table::PathTable;
 use npp_cover::Cover;
 use npp_frac::Exact;
-use npp_lp::{Program, ProgramBuilder};
+use npp_lp::{Program, ProgramBuilder, ProgramLists};
 use npp_net::{Instance, Memory};
 use std::alloc::Global;
 
@@ -90,9 +90,23 @@ impl RelaxationIndex<'_> {
         requires few { length cuts.now ≤ 16777216 }
         ensures { IfOk result (λ p. linear_program N.rational p ≡ numbered (relaxation self.now.paths self.now.parts (map (cut_value N.rational) cuts.now))) }
     {
+        self.program_in(ProgramLists::empty(alloc), alloc, cuts)
+    }
+
+    /// The same, in the memory of an earlier program.
+    pub fn program_in<N: Exact>(
+        &self,
+        lists: ProgramLists<N>,
+        alloc: Global,
+        cuts: &[CutRow<N>],
+    ) -> Result<Program<N>, Memory>
+        requires cuts { All (λ c. IsCut self.now.paths (cut_value N.rational c)) cuts.now }
+        requires few { length cuts.now ≤ 16777216 }
+        ensures { IfOk result (λ p. linear_program N.rational p ≡ numbered (relaxation self.now.paths self.now.parts (map (cut_value N.rational) cuts.now))) }
+    {
         let columns = self.columns(alloc)?;
         let rows = self.rows(alloc, cuts.len() as u32)?;
-        build(alloc, self, cuts, &rows, &columns)
+        build(lists, alloc, self, cuts, &rows, &columns)
     }
 
     /// The relaxation with some cuts, or `Large` exactly where its rows times its columns are over 1,000,000.
@@ -108,15 +122,33 @@ impl RelaxationIndex<'_> {
             (λ p. is_large (relaxation self.now.paths self.now.parts (map (cut_value N.rational) cuts.now)) ≡ false)
             (λ e. (e ≡ RelaxRefusal.Memory) ⊎ (is_large (relaxation self.now.paths self.now.parts (map (cut_value N.rational) cuts.now)) ≡ true)) }
     {
+        self.program_in_unless_large(ProgramLists::empty(alloc), alloc, cuts)
+    }
+
+    /// The same, in the memory of an earlier program.
+    pub fn program_in_unless_large<N: Exact>(
+        &self,
+        lists: ProgramLists<N>,
+        alloc: Global,
+        cuts: &[CutRow<N>],
+    ) -> Result<Program<N>, RelaxRefusal>
+        requires cuts { All (λ c. IsCut self.now.paths (cut_value N.rational c)) cuts.now }
+        requires few { length cuts.now ≤ 16777216 }
+        ensures program { IfOk result (λ p. linear_program N.rational p ≡ numbered (relaxation self.now.paths self.now.parts (map (cut_value N.rational) cuts.now))) }
+        ensures large { MatchResult result
+            (λ p. is_large (relaxation self.now.paths self.now.parts (map (cut_value N.rational) cuts.now)) ≡ false)
+            (λ e. (e ≡ RelaxRefusal.Memory) ⊎ (is_large (relaxation self.now.paths self.now.parts (map (cut_value N.rational) cuts.now)) ≡ true)) }
+    {
         if is_large(self, cuts.len() as u32) {
             return Err(RelaxRefusal::Large);
         }
-        Ok(self.program(alloc, cuts)?)
+        Ok(self.program_in(lists, alloc, cuts)?)
     }
 }
 
 /// The program of the rows and columns of a relaxation.
 fn build<N: Exact>(
+    lists: ProgramLists<N>,
     alloc: Global,
     index: &RelaxationIndex,
     cuts: &[CutRow<N>],
@@ -129,29 +161,30 @@ fn build<N: Exact>(
     ensures { IfOk result (λ p. linear_program N.rational p ≡ numbered (relaxation index.now.paths index.now.parts (map (cut_value N.rational) cuts.now))) }
 {
     let table = index.table();
-    let mut program = match ProgramBuilder::new(alloc, columns.len() as u32) {
+    let mut program = match ProgramBuilder::over(lists, columns.len() as u32) {
         Ok(program) => program,
         Err(_) => return Err(Memory),
     };
+    let list = program.goal_list(alloc);
     let mut entries = Vec::new(alloc);
     for row in rows {
         index.write_row(cuts, *row, &mut entries)?;
         feed(&mut program, &entries, index.right_side(cuts, *row))?;
     }
-    let goal = goal_of(alloc, table, columns)?;
+    let goal = goal_of(list, table, columns)?;
     Ok(program.finish(goal))
 }
 
-/// The goal of columns.
+/// The goal of columns, in a list that is empty.
 pub(crate) fn goal_of<N: Exact>(
-    alloc: Global,
+    mut goal: Vec<N>,
     table: &PathTable,
     columns: &[ColumnName],
 ) -> Result<Vec<N>, Memory>
-    requires { All (IsColumn table.now) columns.now }
+    requires empty { goal.items ≡ [] }
+    requires columns { All (IsColumn table.now) columns.now }
     ensures { IfOk result (λ v. map N.rational v.items ≡ map (paid_goal table.now) columns.now) }
 {
-    let mut goal = Vec::new(alloc);
     for column in columns {
         goal.push(goal_at(table, *column))?;
     }

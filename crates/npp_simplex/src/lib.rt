@@ -11,6 +11,7 @@ mod laws;
 mod line;
 mod line_pivot;
 mod long;
+mod long_divisor;
 mod long_forms;
 mod long_pivot;
 mod long_words;

@@ -8,7 +8,7 @@ ghost use Rattle.npp_simplex.specs.Steps.{nonzero_columns};
 
 use crate::forms::Sizes;
 use crate::long_words::{
-    cut, divide_each_long, factor_of_long, greatest_long_size, long_factor, scale_long,
+    cut, divide_each_long, divisor_of_long, greatest_long_size, long_factor, scale_long,
     subtract_long, subtract_words,
 };
 use npp_frac::Exact;
@@ -199,12 +199,12 @@ pub fn take_long_factor_out(numbers: &mut [i128], denominator: u128) -> u128
     ensures at_most { result ≤ denominator }
     ensures sizes { (j : ℕ) → nat_abs (number_in numbers.new j) ≤ nat_abs (number_in numbers.old j) }
 {
-    let factor = factor_of_long(numbers, denominator);
-    if factor == 1 {
+    let divisor = divisor_of_long(numbers, denominator);
+    if divisor.value == 1 {
         return denominator;
     }
-    divide_each_long(numbers, factor);
-    denominator / factor
+    divide_each_long(numbers, divisor);
+    denominator / divisor.value
 }
 
 /// The same, with the greatest size of the numbers.

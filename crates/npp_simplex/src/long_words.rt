@@ -5,6 +5,7 @@ ghost use Rattle.npp_frac.specs.Rational.{whole};
 ghost use Rattle.npp_simplex.specs.CommonForm.{number_in, AreWithin};
 ghost use Rattle.npp_simplex.specs.Steps.{nonzero_columns};
 
+use crate::long_divisor::LongDivisor;
 use crate::words::common_factor;
 use npp_frac::Memory;
 
@@ -32,21 +33,21 @@ pub fn long_factor(first: u128, second: u128) -> u128
     x
 }
 
-/// A common factor of a denominator and the numbers of a row.
-pub fn factor_of_long(numbers: &[i128], denominator: u128) -> u128
+/// A common divisor of a denominator and the numbers of a row.
+pub fn divisor_of_long(numbers: &[i128], denominator: u128) -> LongDivisor
     requires { 0 < denominator }
-    ensures above { 0 < result }
-    ensures of_denominator { denominator % result ≡ 0 }
-    ensures of_numbers { (j : ℕ) → nat_abs (number_in numbers.now j) % result ≡ 0 }
+    ensures above { 0 < result.value }
+    ensures of_denominator { denominator % result.value ≡ 0 }
+    ensures of_numbers { (j : ℕ) → nat_abs (number_in numbers.now j) % result.value ≡ 0 }
 {
-    let mut factor = denominator;
+    let mut divisor = LongDivisor::of(denominator);
     for j in 0..numbers.len() {
-        if factor == 1 {
-            return 1;
+        if divisor.value == 1 {
+            return divisor;
         }
-        factor = long_factor(factor, numbers[j].unsigned_abs());
+        divisor = divisor.shared_with(numbers[j].unsigned_abs());
     }
-    factor
+    divisor
 }
 
 /// The greatest size of some numbers.
@@ -77,16 +78,25 @@ pub fn scale_long(numbers: &mut [i128], factor: u128)
     }
 }
 
-/// Divides each number.
-pub fn divide_each_long(numbers: &mut [i128], factor: u128)
-    requires positive { 0 < factor }
-    requires below { factor < 2 ^ 127 }
-    requires sizes { AreWithin (2 ^ 127 - 1) numbers.old }
-    ensures { (j : ℕ) → number_in numbers.new j ≡ int_div (number_in numbers.old j) (pos factor) }
+/// The quotient by a divisor, rounded toward zero.
+#[inline(always)]
+fn truncated(number: i128, by: LongDivisor) -> i128
+    requires positive { 0 < by.value }
+    requires size { nat_abs number < 2 ^ 127 }
+    ensures { result ≡ int_div number (pos by.value) }
 {
-    let by = factor as i128;
+    let quotient = by.quotient(number.unsigned_abs()) as i128;
+    if number < 0 { -quotient } else { quotient }
+}
+
+/// Divides each number.
+pub fn divide_each_long(numbers: &mut [i128], divisor: LongDivisor)
+    requires positive { 0 < divisor.value }
+    requires sizes { AreWithin (2 ^ 127 - 1) numbers.old }
+    ensures { (j : ℕ) → number_in numbers.new j ≡ int_div (number_in numbers.old j) (pos divisor.value) }
+{
     for j in 0..numbers.len() {
-        numbers[j] = numbers[j] / by;
+        numbers[j] = truncated(numbers[j], divisor);
     }
 }
 

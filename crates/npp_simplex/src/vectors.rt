@@ -43,6 +43,7 @@ pub fn point<N: Exact>(alloc: Global, tableau: &Tableau<N>, basis: &[u32]) -> Re
 {
     let shape = tableau.shape();
     let mut numbers = Vec::new(alloc);
+    numbers.reserve(shape.columns)?;
     for j in 0..shape.columns {
         match numbers.push(point_number(tableau, basis, j as u32)) {
             Ok(()) => {}
@@ -63,6 +64,7 @@ pub fn multipliers<N: Exact>(
 {
     let shape = tableau.shape();
     let mut numbers = Vec::new(alloc);
+    numbers.reserve(shape.rows)?;
     for k in 0..shape.rows {
         match numbers.push(negated(tableau.entry(goal, shape.columns + k))) {
             Ok(()) => {}
@@ -101,6 +103,7 @@ pub fn ray<N: Exact>(
 {
     let shape = tableau.shape();
     let mut numbers = Vec::new(alloc);
+    numbers.reserve(shape.columns)?;
     for j in 0..shape.columns {
         match numbers.push(ray_number(tableau, basis, column, j as u32)) {
             Ok(()) => {}

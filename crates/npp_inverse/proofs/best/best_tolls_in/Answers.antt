@@ -21,20 +21,20 @@ work_on_in-requires g c = record {
 pub reply_to-requires-clause-size : goal.reply_to-requires-clause-size
 reply_to-requires-clause-size g c =
     let v = g.N.Exact.rational in
-    let shown = subst (λ (w : Work g.row.N.Denot). IsProvedEnding (linear_program v c.in_ok-program.program) (ending_of v w)) c.in-Solved.is c.in_ok-x.ensures.proved in
+    let shown = subst (λ (w : Work g.row.N.Denot). IsProvedEnding (linear_program v c.in_ok-program.program) (ending_of v w)) c.in-Solved.is c.in_ok-work.ensures.proved in
     ap length c.deref.ensures.value ∙ sym (length-map c.in-Solved.x.items v) ∙ shown.point.size ∙ ap (λ (p : LinearProgram). p.columns) c.in_ok-program.ensures ∙ columns_are c.args.table.now c.args.choice.now
 
 pub returns-in-Ok-clause-work : goal.returns-in-Ok-clause-work
 returns-in-Ok-clause-work g c =
     let v = g.N.Exact.rational in
-    let ends = ap (ending_of v) (sym c.in-Solved.is) ∙ c.in_ok-x.ensures.ending ∙ ap (program_work (limit_of g.N.Exact.WIDTH)) c.in_ok-program.ensures in
+    let ends = ap (ending_of v) (sym c.in-Solved.is) ∙ c.in_ok-work.ensures.ending ∙ ap (program_work (limit_of g.N.Exact.WIDTH)) c.in_ok-program.ensures in
     rw c.of.ensures
     (found_work (limit_of g.N.Exact.WIDTH) c.args.table.now c.args.choice.now (map v c.in-Solved.x.items) (map v c.in-Solved.y.items) (v c.in-Solved.value) ends (rw c.deref.ensures.value at c.in-Ok.ensures.fits))
 
 pub returns-in-Ok-clause-proved : goal.returns-in-Ok-clause-proved
 returns-in-Ok-clause-proved g c =
     let v = g.N.Exact.rational in
-    let shown = subst (λ (w : Work g.row.N.Denot). IsProvedEnding (linear_program v c.in_ok-program.program) (ending_of v w)) c.in-Solved.is c.in_ok-x.ensures.proved in
+    let shown = subst (λ (w : Work g.row.N.Denot). IsProvedEnding (linear_program v c.in_ok-program.program) (ending_of v w)) c.in-Solved.is c.in_ok-work.ensures.proved in
     let optimal = subst (λ (p : LinearProgram). AreOptimal p (map v c.in-Solved.x.items) (map v c.in-Solved.y.items) (v c.in-Solved.value)) c.in_ok-program.ensures shown in
     rw c.of.ensures
     (best_tolls_are c.args.table.now c.args.choice.now (map v c.in-Solved.x.items) (map v c.in-Solved.y.items) (v c.in-Solved.value) _ c.requires.useful c.requires.choice optimal (rw c.deref.ensures.value at c.in-Ok.ensures.reply))
@@ -42,23 +42,23 @@ returns-in-Ok-clause-proved g c =
 pub returns-in-Err-Overflow-clause-work : goal.returns-in-Err-Overflow-clause-work
 returns-in-Err-Overflow-clause-work g c =
     let v = g.N.Exact.rational in
-    let ends = ap (ending_of v) (sym c.in-Solved.is) ∙ c.in_ok-x.ensures.ending ∙ ap (program_work (limit_of g.N.Exact.WIDTH)) c.in_ok-program.ensures in
+    let ends = ap (ending_of v) (sym c.in-Solved.is) ∙ c.in_ok-work.ensures.ending ∙ ap (program_work (limit_of g.N.Exact.WIDTH)) c.in_ok-program.ensures in
     sum_work (limit_of g.N.Exact.WIDTH) c.args.table.now c.args.choice.now (map v c.in-Solved.x.items) (map v c.in-Solved.y.items) (v c.in-Solved.value) c.in-Err-Overflow.field-0-0 ends
     (rw c.deref.ensures.value at (c.in-Err-Overflow.ensures.overflow c.in-Err-Overflow.field-0-0 (ap Err c.in-Err-Overflow.field-0-is)))
 
 pub returns-in-NoPoint-clause-work : goal.returns-in-NoPoint-clause-work
 returns-in-NoPoint-clause-work g c =
     let v = g.N.Exact.rational in
-    other_work (limit_of g.N.Exact.WIDTH) c.args.table.now c.args.choice.now _ refl (ap (ending_of v) (sym c.in-NoPoint.is) ∙ c.in_ok-x.ensures.ending ∙ ap (program_work (limit_of g.N.Exact.WIDTH)) c.in_ok-program.ensures)
+    other_work (limit_of g.N.Exact.WIDTH) c.args.table.now c.args.choice.now _ refl (ap (ending_of v) (sym c.in-NoPoint.is) ∙ c.in_ok-work.ensures.ending ∙ ap (program_work (limit_of g.N.Exact.WIDTH)) c.in_ok-program.ensures)
 
 pub returns-clause-work : goal.returns-clause-work
 returns-clause-work g c =
     let v = g.N.Exact.rational in
-    other_work (limit_of g.N.Exact.WIDTH) c.args.table.now c.args.choice.now _ refl (ap (ending_of v) (sym c.in-Loud.is) ∙ c.in_ok-x.ensures.ending ∙ ap (program_work (limit_of g.N.Exact.WIDTH)) c.in_ok-program.ensures)
+    other_work (limit_of g.N.Exact.WIDTH) c.args.table.now c.args.choice.now _ refl (ap (ending_of v) (sym c.in-Loud.is) ∙ c.in_ok-work.ensures.ending ∙ ap (program_work (limit_of g.N.Exact.WIDTH)) c.in_ok-program.ensures)
 
 pub returns-in-NoPoint-clause-zero_choice : goal.returns-in-NoPoint-clause-zero_choice
 returns-in-NoPoint-clause-zero_choice g c =
     let v = g.N.Exact.rational in
-    let shown = subst (λ (w : Work g.row.N.Denot). IsProvedEnding (linear_program v c.in_ok-program.program) (ending_of v w)) c.in-NoPoint.is c.in_ok-x.ensures.proved in
+    let shown = subst (λ (w : Work g.row.N.Denot). IsProvedEnding (linear_program v c.in_ok-program.program) (ending_of v w)) c.in-NoPoint.is c.in_ok-work.ensures.proved in
     let answer = subst (λ (p : LinearProgram). IsFarkasAnswer p (map v c.in-NoPoint.y.items)) c.in_ok-program.ensures shown in
     λ net model zeros. not_none net c.args.table.now c.args.choice.now model c.requires.choice zeros (map v c.in-NoPoint.y.items) answer

@@ -14,7 +14,7 @@ use Rattle.npp_rows.proofs.choice.build.Goals as goal
 pub loop-row-init : goal.loop-row-init
 loop-row-init g c =
     let size : length (map Toll (tolls c.args.table.now)) ≡ length c.args.table.now.caps = rw length-map (length-range_with_len 0 (length c.args.table.now.caps)) in
-    let is = c.in-Ok.ensures ∙ ap (λ n. let s : Started g.row.N.Denot = started n in s) (c.tolls.ensures.count ∙ sym size) in
+    let is = c.goal_list-list.ensures.same ∙ c.in-Ok.ensures ∙ ap (λ n. let s : Started g.row.N.Denot = started n in s) (c.tolls.ensures.count ∙ sym size) in
     rw is (no_rows g.N.Exact.rational (inverse c.args.table.now c.args.choice.now) c.args.rows.now)
 
 pub write_choice_row-requires-clause-row : goal.write_choice_row-requires-clause-row

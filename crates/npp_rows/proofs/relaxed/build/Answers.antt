@@ -33,8 +33,8 @@ loop-row-preserved g c =
     (get_or_default c.args.rows.now c.loop-row.row-index _ _ c.loop-row-test.true) c.loop-row.invariant
     (ap (terms_of g.N.Exact.rational) c.deref.ensures.value ∙ c.in_ok-write_row.ensures) c.right_side.ensures)
 
-pub goal_of-requires : goal.goal_of-requires
-goal_of-requires g c = rw c.table-table.ensures.same (subst (λ (cs : List ColumnName). All (IsColumn c.args.index.now.paths) cs) (sym c.requires.columns) (all_columns c.args.index.now.paths c.args.index.now.parts))
+pub goal_of-requires-clause-columns : goal.goal_of-requires-clause-columns
+goal_of-requires-clause-columns g c = rw c.table-table.ensures.same (subst (λ (cs : List ColumnName). All (IsColumn c.args.index.now.paths) cs) (sym c.requires.columns) (all_columns c.args.index.now.paths c.args.index.now.parts))
 
 pub finish-requires-clause-goal : goal.finish-requires-clause-goal
 finish-requires-clause-goal g c =

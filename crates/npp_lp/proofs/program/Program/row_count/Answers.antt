@@ -4,6 +4,6 @@ use Rattle.npp_lp.proofs.program.Program.row_count.Goals as goal
 
 pub returns-clause-rows : goal.returns-clause-rows
 returns-clause-rows g c =
-    let rows : length c.args.self.now.rows ≡ length c.self.inside.rows.items =
-    ap (λ p. length p.rows) (sym c.self.view_is) ∙ length-written_rows c.self.inside.rows.items c.self.inside.right.items c.self.invariant.0 in
+    let rows : length c.args.self.now.rows ≡ length c.self.inside.spans.items =
+    ap (λ p. length p.rows) (sym c.self.view_is) ∙ length-written_rows c.self.inside.entries.items c.self.inside.spans.items c.self.inside.right.items c.self.invariant.0 in
     omega arith

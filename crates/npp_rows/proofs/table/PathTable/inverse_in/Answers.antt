@@ -1,6 +1,6 @@
 use Rattle.std.proofs.Common.{◌∙◌, refl}
 use Rattle.npp_rows.proofs.ListLaws.{then_more}
-use Rattle.npp_rows.proofs.table.PathTable.inverse.Goals as goal
+use Rattle.npp_rows.proofs.table.PathTable.inverse_in.Goals as goal
 
 pub build-requires-clause-rows : goal.build-requires-clause-rows
 build-requires-clause-rows g c =
