@@ -1,11 +1,13 @@
 -- What the calls of a checker owe to the verdict follows from what a line does at its stage.
 use Rattle.std.specs.Prelude.{◌≡◌, ℕ, ◌+◌, ◌≤◌, List, [], ◌∷◌, ◌++◌, length, Option, Some, None, Result, Ok, Err, refl}
+use Rattle.std.specs.Global.{Box}
 use Rattle.std.proofs.Common.{arith, ap, sym, ◌∙◌, subst, inl, inr, append_assoc}
 use Rattle.std.proofs.lemmas.List.{length-append}
 use Rattle.npp_frac.specs.Rational.{Rational}
 use Rattle.npp_net.specs.Network.{Network}
 use Rattle.npp_tree.specs.declared.item.Item.{Item}
 use Rattle.npp_tree.specs.declared.outcome.Pair.{Pair}
+use Rattle.npp_check.specs.declared.descent.Descent.{Descent}
 use Rattle.npp_check.specs.declared.refusal.Rule.{Rule}
 use Rattle.npp_check.specs.declared.refusal.Rule.TheVariants.{Order}
 use Rattle.npp_check.specs.declared.refusal.CheckRefusal.{CheckRefusal}
@@ -19,7 +21,7 @@ use Rattle.npp_check.specs.Measures.{AreMeasures}
 use Rattle.npp_check.specs.Start.{IsBrokenLine, IsCheckedRefusal}
 use Rattle.npp_check.specs.Verdict.{PairValue, Verdict, pair_value, whole, verdict, IsVerdict}
 use Rattle.npp_check.specs.Stages.{Case, Stage, AtHeader, from_stage}
-use Rattle.npp_check.specs.StageValue.{stage_value}
+use Rattle.npp_check.specs.StageValue.{pair_of, stage_value}
 use Rattle.npp_check.specs.Checking.{Checking, unless_refused, verdict_with, HasTaken, IsNew, Takes, Refuses, IsRefusalOf, IsEndRefusal}
 use Rattle.npp_check.specs.Steps.{IsStageOf, Goes, Steps, refusal_at}
 use Rattle.npp_check.specs.Reads.{Reads, Lines}
@@ -94,19 +96,19 @@ module _ (limit : ℕ) (m : Case) (n : ℕ) (s : Stage) (r : Option CheckRefusal
 
 -- ---- the end
 
-open_of : {N : Type 0} (value : N → Rational) (net : Network) (s : CodeStage N) → ((p : Pair) → s ≡ code.Behind p → ⊥) → IsOpen (stage_value value net s)
-open_of value net (code.Behind p) h = h p refl
+open_of : {N : Type 0} (value : N → Rational) (net : Network) (s : CodeStage N) → ((tree : Box (Descent N)) → s ≡ code.Behind tree → ⊥) → IsOpen (stage_value value net s)
+open_of value net (code.Behind tree) h = h tree refl
 open_of value net other h = tt
 
 pub finishes : {N : Type 0} (value : N → Rational) (limit : ℕ) (m : Case) (n : ℕ) (s : CodeStage N) (r : Option CheckRefusal) → r ≡ None → IsStageOf m (stage_value value m.net s)
-    → ((p : Pair) → s ≡ code.Behind p → ⊥) → verdict_with limit (standing m n (stage_value value m.net s) r) [] ≡ Err (Broken n Order)
+    → ((tree : Box (Descent N)) → s ≡ code.Behind tree → ⊥) → verdict_with limit (standing m n (stage_value value m.net s) r) [] ≡ Err (Broken n Order)
 finishes value limit m n s r none is not_behind =
     ap (λ o. unless_refused o (whole (from_stage limit m (stage_value value m.net s) (record { number = n; items = [] })))) none
     ∙ ap whole (stage_missing limit m (stage_value value m.net s) n is (open_of value m.net s not_behind))
 
-pub finishes_well : {N : Type 0} (value : N → Rational) (limit : ℕ) (m : Case) (n : ℕ) (s : CodeStage N) (r : Option CheckRefusal) (p : Pair) → r ≡ None → s ≡ code.Behind p
-    → verdict_with limit (standing m n (stage_value value m.net s) r) [] ≡ Ok (pair_value p)
-finishes_well value limit m n s r p none is =
+pub finishes_well : {N : Type 0} (value : N → Rational) (limit : ℕ) (m : Case) (n : ℕ) (s : CodeStage N) (r : Option CheckRefusal) (tree : Box (Descent N)) → r ≡ None → s ≡ code.Behind tree
+    → verdict_with limit (standing m n (stage_value value m.net s) r) [] ≡ Ok (pair_of value tree.value.known.head)
+finishes_well value limit m n s r tree none is =
     ap (λ o. unless_refused o (whole (from_stage limit m (stage_value value m.net s) (record { number = n; items = [] })))) none
     ∙ ap (λ x. whole (from_stage limit m (stage_value value m.net x) (record { number = n; items = [] }))) is
 

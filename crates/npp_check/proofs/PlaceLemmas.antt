@@ -1,6 +1,6 @@
 -- What the places of nodes to come are, as a split and the end of a subtree change them.
-use Rattle.std.specs.Prelude.{◌≡◌, ℕ, zero, suc, ◌<◌, List, [], ◌∷◌, ◌++◌, length, slice_set, All, Option, None, Some, IsSome, refl}
-use Rattle.std.proofs.Common.{arith, ap, sym, ◌∙◌, subst}
+use Rattle.std.specs.Prelude.{◌≡◌, ℕ, zero, suc, ◌+◌, ◌<◌, List, [], ◌∷◌, ◌++◌, length, slice_set, slice_index_or, All, Option, None, Some, IsSome, refl}
+use Rattle.std.proofs.Common.{arith, ap, sym, ◌∙◌, subst, take}
 use Rattle.std.proofs.lemmas.List.{set-set}
 use Rattle.std.proofs.lemmas.List.Elements.{All-nil, All-cons, All-append}
 use Rattle.npp_rows.specs.Parts.{part_at}
@@ -38,6 +38,16 @@ pub set_again : (family : Family) (k : ℕ) (a b : List ℕ) → slice_set (slic
 set_again family k a b = set-set family k a b
 
 -- ---- a change is noted
+
+-- the last of a list, and what it becomes in place
+pub last_set : {X : Type 0} (xs : List X) (n : ℕ) (l y : X) → n + 1 ≡ length xs → l ≡ slice_index_or xs n l → (xs ≡ take n xs ++ l ∷ []) × (slice_set xs n y ≡ take n xs ++ y ∷ [])
+last_set [] n l y e is = absurd (omega (arith, e))
+last_set (x ∷ []) zero l y e is = (ap (λ z. z ∷ []) (sym is), refl)
+last_set (x ∷ []) (suc n) l y e is = absurd (omega (arith, e))
+last_set (x ∷ z ∷ xs) zero l y e is = absurd (omega (arith, e))
+last_set (x ∷ z ∷ xs) (suc n) l y e is =
+    let rest = last_set (z ∷ xs) n l y (omega (arith, e)) is in
+    (ap (λ zs. x ∷ zs) rest.0, ap (λ zs. x ∷ zs) rest.1)
 
 -- the second child that comes next keeps a change more
 pub record IsNoted (old new : Later) (change : Change) : Type 0 where
@@ -111,12 +121,21 @@ range_noted n ls later now l x change before after is inside all =
           (All-append (λ change. change.commodity < n) l.changes.items (change ∷ []) old.1.changes (All-cons (λ change. change.commodity < n) change [] inside (All-nil (λ change. change.commodity < n))));
     })
 
+-- where no change was noted
+pub range_kept : (n : ℕ) (ls later now : List Later) (l x : Later) → later ≡ ls ++ l ∷ [] → now ≡ ls ++ x ∷ [] → x.commodity ≡ l.commodity → x.changes.items ≡ l.changes.items → All (IsInRange n) later → All (IsInRange n) now
+range_kept n ls later now l x before after commodity changes all =
+    let old = all_but_last (IsInRange n) ls l (subst (λ (zs : List Later). All (IsInRange n) zs) before all) in
+    range_push n ls now x after old.0 (record {
+      commodity = omega (arith, commodity, old.1.commodity);
+      changes = subst (λ (cs : List Change). All (λ change. change.commodity < n) cs) (sym changes) old.1.changes;
+    })
+
 -- ---- where nothing is left
 
-pub nothing_left : {X : Type 0} (o : Option X) (xs : List X) → o ≡ None → (0 < length xs → IsSome o) → xs ≡ []
+pub nothing_left : {X Y : Type 0} (o : Option Y) (xs : List X) → o ≡ None → (0 < length xs → IsSome o) → xs ≡ []
 nothing_left o [] none some = refl
-nothing_left {X} None (x ∷ xs) none some = (let is = some (omega arith) in cc)
-nothing_left {X} (Some y) (x ∷ xs) none some = cc
+nothing_left None (x ∷ xs) none some = (let is = some (omega arith) in cc)
+nothing_left (Some y) (x ∷ xs) none some = cc
 
-pub nothing_noted : (old now : List Later) (change : Change) → old ≡ [] → now ≡ [] → (family : Family) → later_places now family ≡ later_places old (slice_set family change.commodity change.part)
-nothing_noted old now change none empty family = ap (λ zs. later_places zs family) empty ∙ sym (ap (λ zs. later_places zs (slice_set family change.commodity change.part)) none)
+pub nothing_noted : (old : List Later) (change : Change) → old ≡ [] → (family : Family) → later_places old family ≡ later_places old (slice_set family change.commodity change.part)
+nothing_noted old change none family = ap (λ zs. later_places zs family) none ∙ sym (ap (λ zs. later_places zs (slice_set family change.commodity change.part)) none)

@@ -2,7 +2,7 @@
 use Rattle.std.specs.Prelude.{◌≡◌, ℕ, zero, suc, ◌+◌, ◌-◌, ◌<◌, ◌≤◌, Bool, true, false, not, cond, ◌&&◌, ◌||◌, ◌==◌, nat_lt, List, [], ◌∷◌, ◌++◌, length, map, filter, slice_get, option_map, All, Contains, Result, Ok, Err, refl}
 use Rattle.std.specs.List.{list_any, flat_map, range_with_len}
 use Rattle.std.proofs.Common.{arith, ap, sym, ◌∙◌, subst, inl, inr, eqb-true, eq-eqb, eq-or-lt_of_le}
-use Rattle.std.proofs.lemmas.Bool.{or_left, or_right}
+use Rattle.std.proofs.lemmas.Bool.{and_from, or_left, or_right}
 use Rattle.std.proofs.lemmas.Bool.Decides.{nat_tests}
 use Rattle.std.proofs.lemmas.List.FromFn.{length-map-range_with_len}
 use Rattle.npp_net.specs.Network.{Network, toll_count}
@@ -51,18 +51,14 @@ same_row (OneLow k) (OneLow l) e = ap OneLow (eqb-true k l (both (k == l) true e
 same_row (Cut i) (Cut j) e = ap Cut (eqb-true i j e)
 same_row r s e = cc
 
-and_true : (a b : Bool) → a ≡ true → b ≡ true → (a && b) ≡ true
-and_true true b e f = f
-and_true false b e f = cc
-
 one_row : (r : RowName) → is_same_row r r ≡ true
 one_row (Cap a) = eq-eqb a a refl
-one_row (Follow k p) = and_true (k == k) (p == p) (eq-eqb k k refl) (eq-eqb p p refl)
-one_row (Below a k) = and_true (k == k) (a == a) (eq-eqb k k refl) (eq-eqb a a refl)
-one_row (Use a k) = and_true (k == k) (a == a) (eq-eqb k k refl) (eq-eqb a a refl)
-one_row (Link a k) = and_true (k == k) (a == a) (eq-eqb k k refl) (eq-eqb a a refl)
-one_row (One k) = and_true (k == k) true (eq-eqb k k refl) refl
-one_row (OneLow k) = and_true (k == k) true (eq-eqb k k refl) refl
+one_row (Follow k p) = and_from (k == k) (p == p) (eq-eqb k k refl) (eq-eqb p p refl)
+one_row (Below a k) = and_from (k == k) (a == a) (eq-eqb k k refl) (eq-eqb a a refl)
+one_row (Use a k) = and_from (k == k) (a == a) (eq-eqb k k refl) (eq-eqb a a refl)
+one_row (Link a k) = and_from (k == k) (a == a) (eq-eqb k k refl) (eq-eqb a a refl)
+one_row (One k) = and_from (k == k) true (eq-eqb k k refl) refl
+one_row (OneLow k) = and_from (k == k) true (eq-eqb k k refl) refl
 one_row (Cut i) = eq-eqb i i refl
 
 -- ---- a row among some rows

@@ -20,11 +20,15 @@ use Rattle.npp_check.specs.declared.stage.Stage.{Stage as CodeStage}
 use Rattle.npp_check.specs.declared.stage.Stage.TheVariants as code
 use Rattle.npp_check.specs.declared.stop.Stop.{Stop}
 use Rattle.npp_check.specs.EndLine.{Head}
-use Rattle.npp_check.specs.Verdict.{pair_value}
+use Rattle.npp_check.specs.Verdict.{PairValue}
 use Rattle.npp_check.specs.Stages.{Stage, AtHeader, AtStatus, AtWidth, AtLower, AtUpper, AtOpened, AtInstance, AtLimits, AtTolls, AtPaths, AtCovers, AtLabels, AtCuts, AtCutMultipliers, AtNodes, AtMultipliers, AtBranch, Behind, Known, Sum}
 
 abbrev pub head_value : {N : Type 0} → (N → Rational) → CodeHead N → Head
 head_value value h = record { status = h.status; lower = value h.lower; upper = value h.upper; opened = h.opened }
+
+-- both values that it says
+abbrev pub pair_of : {N : Type 0} → (N → Rational) → CodeHead N → PairValue
+pair_of value h = record { lower = value h.lower; upper = value h.upper }
 
 -- covers to come behind these
 abbrev pub covers_value : {N : Type 0} → (N → Rational) → Network → Printed N → List CoverValue → Stage
@@ -78,22 +82,22 @@ stage_value value net (code.Status two) = AtStatus two
 stage_value value net (code.Width two status) = AtWidth two status
 stage_value value net (code.Lower two status) = AtLower two status
 stage_value value net (code.Upper two status lower) = AtUpper two status (value lower)
-stage_value value net (code.Opened two status lower upper) = AtOpened two status (value lower) (value upper)
-stage_value value net (code.Instance head) = AtInstance (head_value value head)
+stage_value value net (code.Opened two head) = AtOpened two head.value.status (value head.value.lower) (value head.value.upper)
+stage_value value net (code.Instance head) = AtInstance (head_value value head.value)
 stage_value value net (code.Limits head taken) =
-    AtLimits (head_value value head) (toll_count net.arcs - taken) (map (ceiling_of net.arcs) (range_with_len 0 taken))
-stage_value value net (code.Tolls head tolls) = AtTolls (head_value value head) (toll_count net.arcs - length tolls.items) (map value tolls.items)
+    AtLimits (head_value value head.value) (toll_count net.arcs - taken) (map (ceiling_of net.arcs) (range_with_len 0 taken))
+stage_value value net (code.Tolls head tolls) = AtTolls (head_value value head.value) (toll_count net.arcs - length tolls.items) (map value tolls.items)
 stage_value value net (code.Paths head tolls paths) =
-    AtPaths (head_value value head) (map value tolls.items) (length net.commodities - length paths.items) (map (path_line_value value) paths.items)
+    AtPaths (head_value value head.value) (map value tolls.items) (length net.commodities - length paths.items) (map (path_line_value value) paths.items)
 stage_value value net (code.Covers printed covers) = covers_value value net printed.value covers.items
-stage_value value net (code.Labels printed cover) = labels_value value net printed.value cover
+stage_value value net (code.Labels printed cover) = labels_value value net printed.value cover.value
 stage_value value net (code.Cuts known left) = cuts_value value known.value left
-stage_value value net (code.CutMultipliers known left block) = cut_value_at value known.value left block
+stage_value value net (code.CutMultipliers left known block) = cut_value_at value known.value left block
 stage_value value net (code.Nodes descent) = nodes_value value descent.value
 stage_value value net (code.Multipliers descent block) = multipliers_value value descent.value block
 stage_value value net (code.Branch descent bound) = branch_value value descent.value bound
 stage_value value net (code.End descent) = end_value value descent.value
-stage_value value net (code.Behind pair) = Behind (pair_value pair)
+stage_value value net (code.Behind descent) = Behind (pair_of value descent.value.known.head)
 
 -- what a step of the code answers
 abbrev pub step_value : {N : Type 0} → (N → Rational) → Network → Result (CodeStage N) Stop → Result Stage Stop

@@ -25,7 +25,7 @@ use crate::stop::Stop;
 use crate::sums::differ;
 use npp_frac::{Exact, Frac128};
 use npp_net::Listed;
-use npp_tree::{Bound, Item, Pair, Status};
+use npp_tree::{Bound, Item, Status};
 use std::alloc::Global;
 
 /// The line behind the evidence of a node: it goes on no further, or is split.
@@ -102,17 +102,13 @@ fn one_more(count: u64) -> Result<u64, Stop>
 /// The last line.
 pub fn end_step<N: Exact>(
     measured: &Measured,
-    descent: &Descent<N>,
+    descent: Box<Descent<N>>,
     item: &Item<N>,
 ) -> Result<Stage<N>, Stop>
-    ensures { Steps (limit_of N.WIDTH) measured.now (end_value N.rational descent.now) (item_of N.rational item.now) (step_value N.rational measured.now.net result) }
+    ensures { Steps (limit_of N.WIDTH) measured.now (end_value N.rational descent.value) (item_of N.rational item.now) (step_value N.rational measured.now.net result) }
 {
-    let head = descent.known.head;
-    end_line(head, descent.sum, item)?;
-    Ok(Stage::Behind(Pair {
-        lower: head.lower.widen(),
-        upper: head.upper.widen(),
-    }))
+    end_line(descent.known.head, descent.sum, item)?;
+    Ok(Stage::Behind(descent))
 }
 
 /// The head says how many nodes are opened and which bound the tree has, and Optimal where both values are equal.

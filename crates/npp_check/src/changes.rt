@@ -25,23 +25,9 @@ pub fn note(later: &mut Vec<Later>, change: Change) -> Result<(), Memory>
         ≡ later_places later.old.items (slice_set family change.commodity change.part)) }
     ensures range { (n : ℕ) → change.commodity < n → All (IsInRange n) later.old.items → All (IsInRange n) later.new.items }
 {
-    let Some(next) = later.pop() else {
+    let Some(next) = later.last_mut() else {
         return Ok(());
     };
-    let Later {
-        commodity,
-        whole,
-        rest,
-        parent,
-        mut changes,
-    } = next;
-    changes.push(change)?;
-    later.push(Later {
-        commodity,
-        whole,
-        rest,
-        parent,
-        changes,
-    })?;
+    next.changes.push(change)?;
     Ok(())
 }

@@ -9,8 +9,10 @@ ghost use Rattle.npp_check.specs.Verdict.{IsVerdict, pair_value};
 ghost use Rattle.npp_check.specs.Yes.{Proves};
 ghost use Rattle.npp_check.specs.Checking.{IsNew, HasTaken, Takes, Refuses, IsEndRefusal, verdict_with};
 ghost use Rattle.npp_check.specs.Steps.{refusal_at};
+ghost use Rattle.npp_check.specs.StageValue.{pair_of};
 ghost use Rattle.npp_check.specs.Start.{IsStartRefusal, IsCheckedRefusal};
 
+use crate::descent::Descent;
 use crate::measured::Measured;
 use crate::refusal::{CheckRefusal, CheckedRefusal, Rule, StartRefusal};
 use crate::stage::Stage;
@@ -111,13 +113,24 @@ impl<'a, N: Exact> Checker<'a, N> {
         if let Some(refusal) = self.refused {
             return Err(refusal);
         }
-        match self.stage {
-            Stage::Behind(pair) => Ok(pair),
+        match &self.stage {
+            Stage::Behind(tree) => Ok(pair_of(tree)),
             _ => Err(CheckRefusal::Broken {
                 line: self.number,
                 rule: Rule::Order,
             }),
         }
+    }
+}
+
+/// Both values that the head above a tree says.
+fn pair_of<N: Exact>(tree: &Descent<N>) -> Pair
+    ensures { pair_value result ≡ pair_of N.rational tree.now.known.head }
+{
+    let head = tree.known.head;
+    Pair {
+        lower: head.lower.widen(),
+        upper: head.upper.widen(),
     }
 }
 

@@ -58,12 +58,15 @@ fn begin_cover<N: Exact>(
     let k = covers.len() as u32;
     let left = cover_line(k, item)?;
     let draft = GrowingDraft::new(alloc, k, measured.span(k));
-    let cover = OpenCover {
-        covers,
-        draft,
-        taken: 0,
-        left,
-    };
+    let cover = Box::new(
+        alloc,
+        OpenCover {
+            covers,
+            draft,
+            taken: 0,
+            left,
+        },
+    )?;
     Ok(Stage::Labels { printed, cover })
 }
 
@@ -115,15 +118,15 @@ pub fn label_step<N: Exact>(
     alloc: Global,
     measured: &Measured,
     printed: Box<Printed<N>>,
-    cover: OpenCover,
+    cover: Box<OpenCover>,
     item: Item<N>,
 ) -> Result<Stage<N>, Stop>
-    requires stage { IsStageOf measured.now (labels_value N.rational measured.now.net printed.value cover) }
-    ensures { Steps (limit_of N.WIDTH) measured.now (labels_value N.rational measured.now.net printed.value cover)
+    requires stage { IsStageOf measured.now (labels_value N.rational measured.now.net printed.value cover.value) }
+    ensures { Steps (limit_of N.WIDTH) measured.now (labels_value N.rational measured.now.net printed.value cover.value)
         (item_of N.rational item) (step_value N.rational measured.now.net result) }
 {
     if cover.left == 0 {
-        free_step(alloc, measured, printed, cover, item)
+        free_step(alloc, measured, printed, Box::into_inner(cover), item)
     } else if cover.taken == 0 {
         first_label(measured, printed, cover, &item)
     } else {
@@ -135,13 +138,13 @@ pub fn label_step<N: Exact>(
 fn first_label<N: Exact>(
     measured: &Measured,
     printed: Box<Printed<N>>,
-    cover: OpenCover,
+    cover: Box<OpenCover>,
     item: &Item<N>,
 ) -> Result<Stage<N>, Stop>
-    requires stage { IsStageOf measured.now (labels_value N.rational measured.now.net printed.value cover) }
-    requires some { 0 < cover.left }
-    requires first { cover.taken ≡ 0 }
-    ensures { Steps (limit_of N.WIDTH) measured.now (labels_value N.rational measured.now.net printed.value cover)
+    requires stage { IsStageOf measured.now (labels_value N.rational measured.now.net printed.value cover.value) }
+    requires some { 0 < cover.value.left }
+    requires first { cover.value.taken ≡ 0 }
+    ensures { Steps (limit_of N.WIDTH) measured.now (labels_value N.rational measured.now.net printed.value cover.value)
         (item_of N.rational item.now) (step_value N.rational measured.now.net result) }
 {
     match item {
@@ -154,13 +157,13 @@ fn first_label<N: Exact>(
 fn later_label<N: Exact>(
     measured: &Measured,
     printed: Box<Printed<N>>,
-    cover: OpenCover,
+    cover: Box<OpenCover>,
     item: &Item<N>,
 ) -> Result<Stage<N>, Stop>
-    requires stage { IsStageOf measured.now (labels_value N.rational measured.now.net printed.value cover) }
-    requires some { 0 < cover.left }
-    requires later { 0 < cover.taken }
-    ensures { Steps (limit_of N.WIDTH) measured.now (labels_value N.rational measured.now.net printed.value cover)
+    requires stage { IsStageOf measured.now (labels_value N.rational measured.now.net printed.value cover.value) }
+    requires some { 0 < cover.value.left }
+    requires later { 0 < cover.value.taken }
+    ensures { Steps (limit_of N.WIDTH) measured.now (labels_value N.rational measured.now.net printed.value cover.value)
         (item_of N.rational item.now) (step_value N.rational measured.now.net result) }
 {
     match item {
@@ -179,30 +182,21 @@ fn later_label<N: Exact>(
 fn start_step<N: Exact>(
     measured: &Measured,
     printed: Box<Printed<N>>,
-    cover: OpenCover,
+    mut cover: Box<OpenCover>,
 ) -> Result<Stage<N>, Stop>
-    requires stage { IsStageOf measured.now (labels_value N.rational measured.now.net printed.value cover) }
-    requires some { 0 < cover.left }
-    requires first { cover.taken ≡ 0 }
-    ensures { Steps (limit_of N.WIDTH) measured.now (labels_value N.rational measured.now.net printed.value cover)
+    requires stage { IsStageOf measured.now (labels_value N.rational measured.now.net printed.value cover.value) }
+    requires some { 0 < cover.value.left }
+    requires first { cover.value.taken ≡ 0 }
+    ensures { Steps (limit_of N.WIDTH) measured.now (labels_value N.rational measured.now.net printed.value cover.value)
         Item.Start (step_value N.rational measured.now.net result) }
 {
-    let OpenCover {
-        covers,
-        mut draft,
-        taken,
-        left,
-    } = cover;
+    let open = &mut *cover;
     let instance = measured.instance();
-    let potentials = measured.potentials(covers.len() as u32);
-    match draft.start(instance, potentials) {
+    let potentials = measured.potentials(open.covers.len() as u32);
+    match open.draft.start(instance, potentials) {
         Ok(()) => {
-            let cover = OpenCover {
-                covers,
-                draft,
-                taken: taken + 1,
-                left: left - 1,
-            };
+            open.taken += 1;
+            open.left -= 1;
             Ok(Stage::Labels { printed, cover })
         }
         Err(fault) => Err(stop_of_fault(fault)),
@@ -213,31 +207,22 @@ fn start_step<N: Exact>(
 fn next_step<N: Exact>(
     measured: &Measured,
     printed: Box<Printed<N>>,
-    cover: OpenCover,
+    mut cover: Box<OpenCover>,
     step: StepDraft,
 ) -> Result<Stage<N>, Stop>
-    requires stage { IsStageOf measured.now (labels_value N.rational measured.now.net printed.value cover) }
-    requires some { 0 < cover.left }
-    requires later { 0 < cover.taken }
-    ensures { Steps (limit_of N.WIDTH) measured.now (labels_value N.rational measured.now.net printed.value cover)
+    requires stage { IsStageOf measured.now (labels_value N.rational measured.now.net printed.value cover.value) }
+    requires some { 0 < cover.value.left }
+    requires later { 0 < cover.value.taken }
+    ensures { Steps (limit_of N.WIDTH) measured.now (labels_value N.rational measured.now.net printed.value cover.value)
         (Item.Step step.parent step.arc) (step_value N.rational measured.now.net result) }
 {
-    let OpenCover {
-        covers,
-        mut draft,
-        taken,
-        left,
-    } = cover;
+    let open = &mut *cover;
     let instance = measured.instance();
-    let potentials = measured.potentials(covers.len() as u32);
-    match draft.step(instance, potentials, step) {
+    let potentials = measured.potentials(open.covers.len() as u32);
+    match open.draft.step(instance, potentials, step) {
         Ok(()) => {
-            let cover = OpenCover {
-                covers,
-                draft,
-                taken: taken + 1,
-                left: left - 1,
-            };
+            open.taken += 1;
+            open.left -= 1;
             Ok(Stage::Labels { printed, cover })
         }
         Err(fault) => Err(stop_of_fault(fault)),

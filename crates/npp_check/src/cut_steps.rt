@@ -112,7 +112,7 @@ fn begin_cut<N: Exact>(
     ensures { Leads (limit_of N.WIDTH) measured.now (from_stage (limit_of N.WIDTH) measured.now (cut_value_at N.rational known.value left block)) (step_value N.rational measured.now.net result) }
 {
     if block.lines > 0 {
-        return Ok(Stage::CutMultipliers { known, left, block });
+        return Ok(Stage::CutMultipliers { left, known, block });
     }
     let cut = derivation_of(block.kind, block.multipliers);
     end_cut(alloc, measured, known, left, cut)

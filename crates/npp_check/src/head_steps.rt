@@ -74,6 +74,7 @@ pub fn lower_step<N: Exact>(
 
 /// The upper value.
 pub fn upper_step<N: Exact>(
+    alloc: Global,
     measured: &Measured,
     two: bool,
     status: Status,
@@ -84,12 +85,16 @@ pub fn upper_step<N: Exact>(
 {
     let _net = measured.instance();
     let upper = upper_line(item)?;
-    Ok(Stage::Opened {
-        two,
-        status,
-        lower,
-        upper,
-    })
+    let head = Box::new(
+        alloc,
+        Head {
+            status,
+            lower,
+            upper,
+            opened: 0,
+        },
+    )?;
+    Ok(Stage::Opened { two, head })
 }
 
 /// The number of opened nodes. The first form goes on with the tolls.
@@ -97,20 +102,14 @@ pub fn opened_step<N: Exact>(
     alloc: Global,
     measured: &Measured,
     two: bool,
-    status: Status,
-    lower: N,
-    upper: N,
+    mut head: Box<Head<N>>,
     item: &Item<N>,
 ) -> Result<Stage<N>, Stop>
-    ensures { Steps (limit_of N.WIDTH) measured.now (AtOpened two status (N.rational lower) (N.rational upper)) (item_of N.rational item.now) (step_value N.rational measured.now.net result) }
+    ensures { Steps (limit_of N.WIDTH) measured.now (AtOpened two head.value.status (N.rational head.value.lower) (N.rational head.value.upper)) (item_of N.rational item.now) (step_value N.rational measured.now.net result) }
 {
     let opened = opened_line(item)?;
-    let head = Head {
-        status,
-        lower,
-        upper,
-        opened,
-    };
+    let said = &mut *head;
+    said.opened = opened;
     if two {
         Ok(Stage::Instance { head })
     } else {
@@ -122,10 +121,10 @@ pub fn opened_step<N: Exact>(
 pub fn instance_step<N: Exact>(
     alloc: Global,
     measured: &Measured,
-    head: Head<N>,
+    head: Box<Head<N>>,
     item: &Item<N>,
 ) -> Result<Stage<N>, Stop>
-    ensures { Steps (limit_of N.WIDTH) measured.now (AtInstance (head_value N.rational head)) (item_of N.rational item.now) (step_value N.rational measured.now.net result) }
+    ensures { Steps (limit_of N.WIDTH) measured.now (AtInstance (head_value N.rational head.value)) (item_of N.rational item.now) (step_value N.rational measured.now.net result) }
 {
     instance_line(measured.instance(), item)?;
     Ok(limits_stage(alloc, measured, head, 0))
@@ -135,13 +134,13 @@ pub fn instance_step<N: Exact>(
 pub fn limit_step<N: Exact>(
     alloc: Global,
     measured: &Measured,
-    head: Head<N>,
+    head: Box<Head<N>>,
     taken: u32,
     item: &Item<N>,
 ) -> Result<Stage<N>, Stop>
     requires { taken < toll_count measured.now.net.arcs }
     ensures { Steps (limit_of N.WIDTH) measured.now
-        (AtLimits (head_value N.rational head) (toll_count measured.now.net.arcs - taken) (map (ceiling_of measured.now.net.arcs) (range_with_len 0 taken)))
+        (AtLimits (head_value N.rational head.value) (toll_count measured.now.net.arcs - taken) (map (ceiling_of measured.now.net.arcs) (range_with_len 0 taken)))
         (item_of N.rational item.now) (step_value N.rational measured.now.net result) }
 {
     let _ceiling = limit_line(measured.instance(), TollId(taken), item)?;
@@ -149,10 +148,15 @@ pub fn limit_step<N: Exact>(
 }
 
 /// The stage behind so many ceilings: that of the tolls where these are all.
-fn limits_stage<N: Exact>(alloc: Global, measured: &Measured, head: Head<N>, taken: u32) -> Stage<N>
+fn limits_stage<N: Exact>(
+    alloc: Global,
+    measured: &Measured,
+    head: Box<Head<N>>,
+    taken: u32,
+) -> Stage<N>
     requires { taken ≤ toll_count measured.now.net.arcs }
     ensures { Stands (limit_of N.WIDTH) measured.now
-        (AtLimits (head_value N.rational head) (toll_count measured.now.net.arcs - taken) (map (ceiling_of measured.now.net.arcs) (range_with_len 0 taken)))
+        (AtLimits (head_value N.rational head.value) (toll_count measured.now.net.arcs - taken) (map (ceiling_of measured.now.net.arcs) (range_with_len 0 taken)))
         (stage_value N.rational measured.now.net result) }
 {
     if taken < measured.instance().tolls() {

@@ -25,13 +25,13 @@ use std::alloc::Global;
 pub fn toll_step<N: Exact>(
     alloc: Global,
     measured: &Measured,
-    head: Head<N>,
+    head: Box<Head<N>>,
     mut tolls: Vec<N>,
     item: &Item<N>,
 ) -> Result<Stage<N>, Stop>
     requires { length tolls.items < toll_count measured.now.net.arcs }
     ensures { Steps (limit_of N.WIDTH) measured.now
-        (AtTolls (head_value N.rational head) (toll_count measured.now.net.arcs - length tolls.items) (map N.rational tolls.items))
+        (AtTolls (head_value N.rational head.value) (toll_count measured.now.net.arcs - length tolls.items) (map N.rational tolls.items))
         (item_of N.rational item.now) (step_value N.rational measured.now.net result) }
 {
     let instance = measured.instance();
@@ -44,12 +44,12 @@ pub fn toll_step<N: Exact>(
 pub fn tolls_stage<N: Exact>(
     alloc: Global,
     measured: &Measured,
-    head: Head<N>,
+    head: Box<Head<N>>,
     tolls: Vec<N>,
 ) -> Stage<N>
     requires { length tolls.items ≤ toll_count measured.now.net.arcs }
     ensures { Stands (limit_of N.WIDTH) measured.now
-        (AtTolls (head_value N.rational head) (toll_count measured.now.net.arcs - length tolls.items) (map N.rational tolls.items))
+        (AtTolls (head_value N.rational head.value) (toll_count measured.now.net.arcs - length tolls.items) (map N.rational tolls.items))
         (stage_value N.rational measured.now.net result) }
 {
     if tolls.len() < measured.instance().tolls() as usize {
@@ -67,7 +67,7 @@ pub fn tolls_stage<N: Exact>(
 pub fn path_step<N: Exact>(
     alloc: Global,
     measured: &Measured,
-    head: Head<N>,
+    head: Box<Head<N>>,
     tolls: Vec<N>,
     mut paths: Vec<PathLine<N>>,
     item: Item<N>,
@@ -75,7 +75,7 @@ pub fn path_step<N: Exact>(
     requires stage { ArePathsBut measured.now.net (map N.rational tolls.items) (length measured.now.net.commodities - length paths.items) (map (path_line_value N.rational) paths.items) }
     requires short { HasShortLists item }
     ensures { Steps (limit_of N.WIDTH) measured.now
-        (AtPaths (head_value N.rational head) (map N.rational tolls.items) (length measured.now.net.commodities - length paths.items) (map (path_line_value N.rational) paths.items))
+        (AtPaths (head_value N.rational head.value) (map N.rational tolls.items) (length measured.now.net.commodities - length paths.items) (map (path_line_value N.rational) paths.items))
         (item_of N.rational item) (step_value N.rational measured.now.net result) }
 {
     let instance = measured.instance();
@@ -88,7 +88,7 @@ pub fn path_step<N: Exact>(
 fn paths_stage<N: Exact>(
     alloc: Global,
     measured: &Measured,
-    head: Head<N>,
+    head: Box<Head<N>>,
     tolls: Vec<N>,
     paths: Vec<PathLine<N>>,
 ) -> Result<Stage<N>, Stop>
@@ -96,13 +96,14 @@ fn paths_stage<N: Exact>(
     requires tolls { length tolls.items ≡ toll_count measured.now.net.arcs }
     requires costs { All (λ p. p.cost < 2 ^ 63) (map (path_line_value N.rational) paths.items) }
     ensures stage { IfOk result (λ s. Stands (limit_of N.WIDTH) measured.now
-        (AtPaths (head_value N.rational head) (map N.rational tolls.items) (length measured.now.net.commodities - length paths.items) (map (path_line_value N.rational) paths.items))
+        (AtPaths (head_value N.rational head.value) (map N.rational tolls.items) (length measured.now.net.commodities - length paths.items) (map (path_line_value N.rational) paths.items))
         (stage_value N.rational measured.now.net s)) }
     ensures stop { IfErr result (λ e. e ≡ Stop.Memory) }
 {
     if paths.len() < measured.instance().commodities().len() {
         return Ok(Stage::Paths { head, tolls, paths });
     }
+    let head = Box::into_inner(head);
     let printed = Box::new(alloc, Printed { head, tolls, paths })?;
     Ok(Stage::Covers {
         printed,

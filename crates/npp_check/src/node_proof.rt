@@ -42,7 +42,7 @@ use std::alloc::Global;
 /// What the multipliers of a block prove of the program of the first node: a bound as a dual answer, or as a Farkas answer
 /// that the node has no outcome.
 ///
-/// It takes the time of the entries of their rows, of the columns, and of a look at each path for each toll; no program is
+/// It takes the time of the entries of their rows, of the columns, and of a look at the tolls of each path; no program is
 /// made.
 pub fn node_value<N: Exact>(
     alloc: Global,

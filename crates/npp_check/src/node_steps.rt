@@ -19,7 +19,7 @@ use crate::descent::{Descent, Sum};
 use crate::measured::Measured;
 use crate::node_proof::node_value;
 use crate::node_rows::multiplier_line;
-use crate::openings::{is_full, is_of_choice, opening_line, whole_bound};
+use crate::openings::{is_of_choice, opening_line, whole_bound};
 use crate::stage::Stage;
 use crate::stop::Stop;
 use npp_frac::Exact;
@@ -37,8 +37,7 @@ pub fn node_step<N: Exact>(
     requires stage { IsStageOf measured.now (nodes_value N.rational descent.value) }
     ensures { Steps (limit_of N.WIDTH) measured.now (nodes_value N.rational descent.value) (item_of N.rational item.now) (step_value N.rational measured.now.net result) }
 {
-    let full = is_full(descent.places.allowed());
-    let opening = opening_line(full, item)?;
+    let opening = opening_line(descent.places.allowed(), item)?;
     match opening {
         Opening::NotOpened => leave_open(alloc, measured, descent),
         Opening::Marked(_) => {

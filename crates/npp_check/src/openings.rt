@@ -16,17 +16,18 @@ use npp_frac::{Exact, Frac128};
 use npp_rows::Allowed;
 use npp_tree::{Bound, Item};
 
-/// How a node begins. A full choice can have an answer of its inverse program, and every other node one of its relaxation.
-pub fn opening_line<N: Exact>(full: bool, item: &Item<N>) -> Result<Opening, Rule>
-    ensures { result ≡ opening_line full (item_of N.rational item.now) }
+/// How a node with this family begins. A full choice can have an answer of its inverse program, and every other node one of
+/// its relaxation. Whether it is one is asked only where the node has an answer.
+pub fn opening_line<N: Exact>(allowed: &Allowed, item: &Item<N>) -> Result<Opening, Rule>
+    ensures { result ≡ opening_line (is_full allowed.now.parts) (item_of N.rational item.now) }
 {
     match item {
         Item::Open => Ok(Opening::NotOpened),
         Item::Basic(mark) => Ok(Opening::Marked(*mark)),
-        Item::Dual(count) => answered(!full, Answer::OfDual, *count),
-        Item::Farkas(count) => answered(!full, Answer::OfFarkas, *count),
-        Item::Inverse(count) => answered(full, Answer::OfInverse, *count),
-        Item::NoInverse(count) => answered(full, Answer::OfNoInverse, *count),
+        Item::Dual(count) => answered(!is_full(allowed), Answer::OfDual, *count),
+        Item::Farkas(count) => answered(!is_full(allowed), Answer::OfFarkas, *count),
+        Item::Inverse(count) => answered(is_full(allowed), Answer::OfInverse, *count),
+        Item::NoInverse(count) => answered(is_full(allowed), Answer::OfNoInverse, *count),
         _ => Err(Rule::Order),
     }
 }

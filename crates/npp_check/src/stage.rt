@@ -4,7 +4,7 @@ use crate::block::{CutBlock, NodeBlock};
 use crate::descent::Descent;
 use crate::known::{Head, Known, OpenCover, Printed};
 use npp_cover::Cover;
-use npp_tree::{Bound, Pair, PathLine, Status};
+use npp_tree::{Bound, PathLine, Status};
 
 /// Which line comes next, with what the lines above it leave to be known. The second form of a certificate names the
 /// instance. A stage is moved at each line: what is large stands in a box.
@@ -44,36 +44,32 @@ pub enum Stage<N> {
     Opened {
         /// Whether the certificate is in the second form.
         two: bool,
-        /// How the search ended.
-        status: Status,
-        /// The lower value.
-        lower: N,
-        /// The upper value.
-        upper: N,
+        /// What the head says above this line.
+        head: Box<Head<N>>,
     },
     /// The sizes of the instance.
     Instance {
         /// What the head says.
-        head: Head<N>,
+        head: Box<Head<N>>,
     },
     /// A ceiling.
     Limits {
         /// What the head says.
-        head: Head<N>,
+        head: Box<Head<N>>,
         /// How many ceilings stand above.
         taken: u32,
     },
     /// A toll.
     Tolls {
         /// What the head says.
-        head: Head<N>,
+        head: Box<Head<N>>,
         /// The tolls above.
         tolls: Vec<N>,
     },
     /// A walk.
     Paths {
         /// What the head says.
-        head: Head<N>,
+        head: Box<Head<N>>,
         /// The tolls.
         tolls: Vec<N>,
         /// The walks above.
@@ -91,7 +87,7 @@ pub enum Stage<N> {
         /// What stands above the covers.
         printed: Box<Printed<N>>,
         /// The cover, with those above it.
-        cover: OpenCover,
+        cover: Box<OpenCover>,
     },
     /// A cut, or the head of the tree where all cuts stand.
     Cuts {
@@ -102,10 +98,10 @@ pub enum Stage<N> {
     },
     /// A multiplier of a cut.
     CutMultipliers {
-        /// What stands above the cut.
-        known: Box<Known<N>>,
-        /// How many cuts are still to come behind it.
+        /// How many cuts are still to come behind the cut.
         left: u32,
+        /// What stands above it.
+        known: Box<Known<N>>,
         /// The cut.
         block: CutBlock<N>,
     },
@@ -128,5 +124,5 @@ pub enum Stage<N> {
     /// The last line. No node of the tree is still to come.
     End(Box<Descent<N>>),
     /// Nothing: the last line stands above.
-    Behind(Pair),
+    Behind(Box<Descent<N>>),
 }

@@ -38,13 +38,10 @@ pub fn step<N: Exact>(
         Stage::Status { two } => status_step(measured, two, &item),
         Stage::Width { two, status } => width_step(measured, two, status, &item),
         Stage::Lower { two, status } => lower_step(measured, two, status, &item),
-        Stage::Upper { two, status, lower } => upper_step(measured, two, status, lower, &item),
-        Stage::Opened {
-            two,
-            status,
-            lower,
-            upper,
-        } => opened_step(alloc, measured, two, status, lower, upper, &item),
+        Stage::Upper { two, status, lower } => {
+            upper_step(alloc, measured, two, status, lower, &item)
+        }
+        Stage::Opened { two, head } => opened_step(alloc, measured, two, head, &item),
         Stage::Instance { head } => instance_step(alloc, measured, head, &item),
         Stage::Limits { head, taken } => limit_step(alloc, measured, head, taken, &item),
         Stage::Tolls { head, tolls } => toll_step(alloc, measured, head, tolls, &item),
@@ -52,7 +49,7 @@ pub fn step<N: Exact>(
         Stage::Covers { printed, covers } => cover_step(alloc, measured, printed, covers, &item),
         Stage::Labels { printed, cover } => label_step(alloc, measured, printed, cover, item),
         Stage::Cuts { known, left } => cut_step(alloc, measured, known, left, item),
-        Stage::CutMultipliers { known, left, block } => {
+        Stage::CutMultipliers { left, known, block } => {
             cut_multiplier_step(alloc, measured, known, left, block, &item)
         }
         Stage::Nodes(descent) => node_step(alloc, measured, descent, &item),
@@ -60,7 +57,7 @@ pub fn step<N: Exact>(
             multiplier_step(alloc, measured, descent, block, &item)
         }
         Stage::Branch { descent, bound } => branch_step(alloc, measured, descent, bound, item),
-        Stage::End(descent) => end_step(measured, &descent, &item),
+        Stage::End(descent) => end_step(measured, descent, &item),
         Stage::Behind(_) => Err(Stop::Broken(Rule::Order)),
     }
 }

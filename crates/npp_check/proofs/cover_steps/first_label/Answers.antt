@@ -14,9 +14,9 @@ use Rattle.npp_check.proofs.cover_steps.first_label.Goals as goal
 
 pub returns-in_default : goal.returns-in_default
 returns-in_default g c =
-    label_breaks (limit_of g.N.Exact.WIDTH) c.args.measured.now (head_value g.N.Exact.rational c.args.printed.value.head) (map g.N.Exact.rational c.args.printed.value.tolls.items) (map (path_line_value g.N.Exact.rational) c.args.printed.value.paths.items) (length c.args.measured.now.net.commodities - (length c.args.cover.covers.items + 1)) c.args.cover.covers.items c.args.cover.left (c.args.cover.left - 1) c.args.cover.draft (item_of g.N.Exact.rational c.args.item.now) (omega (arith, c.requires.some)) rule.Order
-    (not_first c.args.measured.now.net c.args.measured.now.measures (length c.args.cover.covers.items) g.N.Exact.rational c.args.item.now c.args.cover.draft.labels (none_left c.args.cover.draft.labels (omega (arith, c.args.cover.counted, c.requires.first))) c.in_default.not-Start)
+    label_breaks (limit_of g.N.Exact.WIDTH) c.args.measured.now (head_value g.N.Exact.rational c.args.printed.value.head) (map g.N.Exact.rational c.args.printed.value.tolls.items) (map (path_line_value g.N.Exact.rational) c.args.printed.value.paths.items) (length c.args.measured.now.net.commodities - (length c.args.cover.value.covers.items + 1)) c.args.cover.value.covers.items c.args.cover.value.left (c.args.cover.value.left - 1) c.args.cover.value.draft (item_of g.N.Exact.rational c.args.item.now) (omega (arith, c.requires.some)) rule.Order
+    (not_first c.args.measured.now.net c.args.measured.now.measures (length c.args.cover.value.covers.items) g.N.Exact.rational c.args.item.now c.args.cover.value.draft.labels (none_left c.args.cover.value.draft.labels (omega (arith, c.args.cover.value.counted, c.requires.first))) c.in_default.not-Start)
 
 pub returns-in-Start : goal.returns-in-Start
 returns-in-Start g c =
-    subst (λ (i : Item g.row.N.Denot). Steps (limit_of g.N.Exact.WIDTH) c.args.measured.now (AtLabels (head_value g.N.Exact.rational c.args.printed.value.head) (map g.N.Exact.rational c.args.printed.value.tolls.items) (map (path_line_value g.N.Exact.rational) c.args.printed.value.paths.items) (length c.args.measured.now.net.commodities - (length c.args.cover.covers.items + 1)) c.args.cover.covers.items c.args.cover.left c.args.cover.draft) (item_of g.N.Exact.rational i) (step_value g.N.Exact.rational c.args.measured.now.net c.start_step.result)) (sym c.in-Start.is) c.start_step.ensures
+    subst (λ (i : Item g.row.N.Denot). Steps (limit_of g.N.Exact.WIDTH) c.args.measured.now (AtLabels (head_value g.N.Exact.rational c.args.printed.value.head) (map g.N.Exact.rational c.args.printed.value.tolls.items) (map (path_line_value g.N.Exact.rational) c.args.printed.value.paths.items) (length c.args.measured.now.net.commodities - (length c.args.cover.value.covers.items + 1)) c.args.cover.value.covers.items c.args.cover.value.left c.args.cover.value.draft) (item_of g.N.Exact.rational i) (step_value g.N.Exact.rational c.args.measured.now.net c.start_step.result)) (sym c.in-Start.is) c.start_step.ensures

@@ -1,31 +1,47 @@
-use Rattle.std.proofs.Common.{◌∙◌, ◌+◌, ◌-◌, map, length, Err, sym, subst, arith}
+use Rattle.std.proofs.Common.{◌∙◌, ◌+◌, ◌-◌, map, length, Ok, Err, ap, sym, subst, arith}
 use Rattle.npp_frac.specs.Fits.{limit_of}
 use Rattle.npp_short.specs.Reach.{cost_at}
 use Rattle.npp_tree.specs.declared.item.Item.TheVariants as item
 use Rattle.npp_tree.specs.Outcome.{path_line_value}
+use Rattle.npp_check.specs.declared.known.OpenCover.{OpenCover}
 use Rattle.npp_check.specs.declared.stop.Stop.{Stop}
 use Rattle.npp_check.specs.Stages.{AtLabels}
-use Rattle.npp_check.specs.StageValue.{head_value}
-use Rattle.npp_check.specs.Steps.{Steps}
+use Rattle.npp_check.specs.StageValue.{head_value, labels_value}
+use Rattle.npp_check.specs.Steps.{Steps, IsStageOf}
 use Rattle.npp_check.proofs.CheckerLemmas.{none_left}
 use Rattle.npp_check.proofs.LabelStepLemmas.{draft_good, table_good, start_takes, start_stops}
 use Rattle.npp_check.proofs.cover_steps.start_step.Goals as goal
 
 pub start-requires-clause-draft : goal.start-requires-clause-draft
-start-requires-clause-draft g c = draft_good c.args.measured.now (map g.N.Exact.rational c.args.printed.value.tolls.items) (map (path_line_value g.N.Exact.rational) c.args.printed.value.paths.items) (length c.args.measured.now.net.commodities - (length c.args.cover.covers.items + 1)) c.args.cover.covers.items c.args.cover.left c.args.cover.draft c.requires.stage c.instance-instance.result.now c.instance-instance.ensures.instance c.len.result (c.len.ensures ∙ c.args.cover.covers.ok.0)
+start-requires-clause-draft g c =
+    let v = g.N.Exact.rational in
+    let d : OpenCover = c.deref_mut-open.result.now in
+    draft_good c.args.measured.now (map v c.args.printed.value.tolls.items) (map (path_line_value v) c.args.printed.value.paths.items) (length c.args.measured.now.net.commodities - (length d.covers.items + 1)) d.covers.items d.left d.draft (subst (λ (o : OpenCover). IsStageOf c.args.measured.now (labels_value v c.args.measured.now.net c.args.printed.value o)) (sym c.deref_mut-open.ensures.value) c.requires.stage) c.instance-instance.result.now c.instance-instance.ensures.instance c.len.result (c.len.ensures ∙ d.covers.ok.0)
 
 pub start-requires-clause-potentials : goal.start-requires-clause-potentials
-start-requires-clause-potentials g c = table_good c.args.measured.now (map g.N.Exact.rational c.args.printed.value.tolls.items) (map (path_line_value g.N.Exact.rational) c.args.printed.value.paths.items) (length c.args.measured.now.net.commodities - (length c.args.cover.covers.items + 1)) c.args.cover.covers.items c.args.cover.left c.args.cover.draft c.requires.stage c.instance-instance.result.now c.instance-instance.ensures.instance c.len.result (c.len.ensures ∙ c.args.cover.covers.ok.0) c.potentials-potentials.result.now c.potentials-potentials.ensures.distances
+start-requires-clause-potentials g c =
+    let v = g.N.Exact.rational in
+    let d : OpenCover = c.deref_mut-open.result.now in
+    table_good c.args.measured.now (map v c.args.printed.value.tolls.items) (map (path_line_value v) c.args.printed.value.paths.items) (length c.args.measured.now.net.commodities - (length d.covers.items + 1)) d.covers.items d.left d.draft (subst (λ (o : OpenCover). IsStageOf c.args.measured.now (labels_value v c.args.measured.now.net c.args.printed.value o)) (sym c.deref_mut-open.ensures.value) c.requires.stage) c.instance-instance.result.now c.instance-instance.ensures.instance c.len.result (c.len.ensures ∙ d.covers.ok.0) c.potentials-potentials.result.now c.potentials-potentials.ensures.distances
 
 pub start-requires-clause-first : goal.start-requires-clause-first
-start-requires-clause-first g c = none_left c.args.cover.draft.labels (omega (arith, c.args.cover.counted, c.requires.first))
+start-requires-clause-first g c =
+    let v = g.N.Exact.rational in
+    let d : OpenCover = c.deref_mut-open.result.now in
+    none_left d.draft.labels (omega (arith, d.counted, c.requires.first, ap (λ (o : OpenCover). o.taken) c.deref_mut-open.ensures.value))
 
 pub returns-in-Ok : goal.returns-in-Ok
 returns-in-Ok g c =
-    start_takes (limit_of g.N.Exact.WIDTH) c.args.measured.now (head_value g.N.Exact.rational c.args.printed.value.head) (map g.N.Exact.rational c.args.printed.value.tolls.items) (map (path_line_value g.N.Exact.rational) c.args.printed.value.paths.items) (length c.args.measured.now.net.commodities - (length c.args.cover.covers.items + 1)) c.args.cover.covers.items c.args.cover.left c.args.cover.draft c.requires.stage c.instance-instance.result.now c.instance-instance.ensures.instance c.len.result (c.len.ensures ∙ c.args.cover.covers.ok.0) (cost_at c.potentials-potentials.result.now) c.potentials-potentials.ensures.costs (c.args.cover.left - 1) (omega (arith, c.requires.some)) (none_left c.args.cover.draft.labels (omega (arith, c.args.cover.counted, c.requires.first)))
-    c.start.new.self c.in-Ok.ensures.fault c.in-Ok.ensures.labels c.in-Ok.ensures.draft
+    let v = g.N.Exact.rational in
+    let d : OpenCover = c.deref_mut-open.result.now in
+    subst (λ (o : OpenCover). Steps (limit_of g.N.Exact.WIDTH) c.args.measured.now (labels_value v c.args.measured.now.net c.args.printed.value o) item.Start (Ok (AtLabels (head_value v c.args.printed.value.head) (map v c.args.printed.value.tolls.items) (map (path_line_value v) c.args.printed.value.paths.items) (length c.args.measured.now.net.commodities - (length d.covers.items + 1)) d.covers.items (d.left - 1) c.start.new.self))) c.deref_mut-open.ensures.value
+    (start_takes (limit_of g.N.Exact.WIDTH) c.args.measured.now (head_value v c.args.printed.value.head) (map v c.args.printed.value.tolls.items) (map (path_line_value v) c.args.printed.value.paths.items) (length c.args.measured.now.net.commodities - (length d.covers.items + 1)) d.covers.items d.left d.draft (subst (λ (o : OpenCover). IsStageOf c.args.measured.now (labels_value v c.args.measured.now.net c.args.printed.value o)) (sym c.deref_mut-open.ensures.value) c.requires.stage) c.instance-instance.result.now c.instance-instance.ensures.instance c.len.result (c.len.ensures ∙ d.covers.ok.0) (cost_at c.potentials-potentials.result.now) c.potentials-potentials.ensures.costs (d.left - 1) (omega (arith, c.requires.some, ap (λ (o : OpenCover). o.left) c.deref_mut-open.ensures.value)) (none_left d.draft.labels (omega (arith, d.counted, c.requires.first, ap (λ (o : OpenCover). o.taken) c.deref_mut-open.ensures.value)))
+    c.start.new.self c.in-Ok.ensures.fault c.in-Ok.ensures.labels c.in-Ok.ensures.draft)
 
 pub returns-in-Err : goal.returns-in-Err
 returns-in-Err g c =
-    subst (λ (s : Stop). Steps (limit_of g.N.Exact.WIDTH) c.args.measured.now (AtLabels (head_value g.N.Exact.rational c.args.printed.value.head) (map g.N.Exact.rational c.args.printed.value.tolls.items) (map (path_line_value g.N.Exact.rational) c.args.printed.value.paths.items) (length c.args.measured.now.net.commodities - (length c.args.cover.covers.items + 1)) c.args.cover.covers.items c.args.cover.left c.args.cover.draft) item.Start (Err s)) (sym c.stop_of_fault.ensures)
-    (start_stops (limit_of g.N.Exact.WIDTH) c.args.measured.now (head_value g.N.Exact.rational c.args.printed.value.head) (map g.N.Exact.rational c.args.printed.value.tolls.items) (map (path_line_value g.N.Exact.rational) c.args.printed.value.paths.items) (length c.args.measured.now.net.commodities - (length c.args.cover.covers.items + 1)) c.args.cover.covers.items c.args.cover.left c.args.cover.draft c.requires.stage c.instance-instance.result.now c.instance-instance.ensures.instance c.len.result (c.len.ensures ∙ c.args.cover.covers.ok.0) (cost_at c.potentials-potentials.result.now) c.potentials-potentials.ensures.costs (c.args.cover.left - 1) (omega (arith, c.requires.some)) (none_left c.args.cover.draft.labels (omega (arith, c.args.cover.counted, c.requires.first))) c.in-Err.fault c.in-Err.ensures.fault)
+    let v = g.N.Exact.rational in
+    let d : OpenCover = c.deref_mut-open.result.now in
+    subst (λ (o : OpenCover). Steps (limit_of g.N.Exact.WIDTH) c.args.measured.now (labels_value v c.args.measured.now.net c.args.printed.value o) item.Start (Err c.stop_of_fault.result)) c.deref_mut-open.ensures.value
+    (subst (λ (s : Stop). Steps (limit_of g.N.Exact.WIDTH) c.args.measured.now (AtLabels (head_value v c.args.printed.value.head) (map v c.args.printed.value.tolls.items) (map (path_line_value v) c.args.printed.value.paths.items) (length c.args.measured.now.net.commodities - (length d.covers.items + 1)) d.covers.items d.left d.draft) item.Start (Err s)) (sym c.stop_of_fault.ensures)
+    (start_stops (limit_of g.N.Exact.WIDTH) c.args.measured.now (head_value v c.args.printed.value.head) (map v c.args.printed.value.tolls.items) (map (path_line_value v) c.args.printed.value.paths.items) (length c.args.measured.now.net.commodities - (length d.covers.items + 1)) d.covers.items d.left d.draft (subst (λ (o : OpenCover). IsStageOf c.args.measured.now (labels_value v c.args.measured.now.net c.args.printed.value o)) (sym c.deref_mut-open.ensures.value) c.requires.stage) c.instance-instance.result.now c.instance-instance.ensures.instance c.len.result (c.len.ensures ∙ d.covers.ok.0) (cost_at c.potentials-potentials.result.now) c.potentials-potentials.ensures.costs (d.left - 1) (omega (arith, c.requires.some, ap (λ (o : OpenCover). o.left) c.deref_mut-open.ensures.value)) (none_left d.draft.labels (omega (arith, d.counted, c.requires.first, ap (λ (o : OpenCover). o.taken) c.deref_mut-open.ensures.value))) c.in-Err.fault c.in-Err.ensures.fault))

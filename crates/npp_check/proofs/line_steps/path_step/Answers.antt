@@ -20,13 +20,13 @@ below c paths some = omega (arith, some)
 
 pub returns-in_err-path : goal.returns-in_err-path
 returns-in_err-path g c =
-    refused_so g.N.Exact.rational (limit_of g.N.Exact.WIDTH) c.args.measured.now (AtPaths (head_value g.N.Exact.rational c.args.head) (map g.N.Exact.rational c.args.tolls.items) (length c.args.measured.now.net.commodities - length c.args.paths.items) (map (path_line_value g.N.Exact.rational) c.args.paths.items)) (item_of g.N.Exact.rational c.args.item) c.in_err-path.field-0.0 c.from_residual.result c.from_residual.ensures.1
-    (path_breaks g.N.Exact.rational (limit_of g.N.Exact.WIDTH) c.args.measured.now (head_value g.N.Exact.rational c.args.head) (map g.N.Exact.rational c.args.tolls.items) c.args.paths.items (item_of g.N.Exact.rational c.args.item) (below c.args.measured.now c.args.paths.items c.requires.stage.part.some) c.in_err-path.field-0.0 (c.in_err-path.ensures.said ∙ named (limit_of g.N.Exact.WIDTH) (item_of g.N.Exact.rational c.args.item) c.instance-instance.ensures.instance (ap (map g.N.Exact.rational) c.deref.ensures.value) (c.len.ensures ∙ c.args.paths.ok.0)))
+    refused_so g.N.Exact.rational (limit_of g.N.Exact.WIDTH) c.args.measured.now (AtPaths (head_value g.N.Exact.rational c.args.head.value) (map g.N.Exact.rational c.args.tolls.items) (length c.args.measured.now.net.commodities - length c.args.paths.items) (map (path_line_value g.N.Exact.rational) c.args.paths.items)) (item_of g.N.Exact.rational c.args.item) c.in_err-path.field-0.0 c.from_residual.result c.from_residual.ensures.1
+    (path_breaks g.N.Exact.rational (limit_of g.N.Exact.WIDTH) c.args.measured.now (head_value g.N.Exact.rational c.args.head.value) (map g.N.Exact.rational c.args.tolls.items) c.args.paths.items (item_of g.N.Exact.rational c.args.item) (below c.args.measured.now c.args.paths.items c.requires.stage.part.some) c.in_err-path.field-0.0 (c.in_err-path.ensures.said ∙ named (limit_of g.N.Exact.WIDTH) (item_of g.N.Exact.rational c.args.item) c.instance-instance.ensures.instance (ap (map g.N.Exact.rational) c.deref.ensures.value) (c.len.ensures ∙ c.args.paths.ok.0)))
 
 pub returns : goal.returns
 returns g c =
     let at : List (PathLine g.row.N.Denot) → Stage =
-    λ paths. AtPaths (head_value g.N.Exact.rational c.args.head) (map g.N.Exact.rational c.args.tolls.items) (length c.args.measured.now.net.commodities - length paths) (map (path_line_value g.N.Exact.rational) paths) in
+    λ paths. AtPaths (head_value g.N.Exact.rational c.args.head.value) (map g.N.Exact.rational c.args.tolls.items) (length c.args.measured.now.net.commodities - length paths) (map (path_line_value g.N.Exact.rational) paths) in
     stage_or_memory g.N.Exact.rational (limit_of g.N.Exact.WIDTH) c.args.measured.now (at c.args.paths.items) (at c.push.new.self.items) (item_of g.N.Exact.rational c.args.item) c.paths_stage.result c.paths_stage.ensures.stage c.paths_stage.ensures.stop
-    (λ s stands. path_goes g.N.Exact.rational (limit_of g.N.Exact.WIDTH) c.args.measured.now (head_value g.N.Exact.rational c.args.head) (map g.N.Exact.rational c.args.tolls.items) c.args.paths.items (item_of g.N.Exact.rational c.args.item) (below c.args.measured.now c.args.paths.items c.requires.stage.part.some)
+    (λ s stands. path_goes g.N.Exact.rational (limit_of g.N.Exact.WIDTH) c.args.measured.now (head_value g.N.Exact.rational c.args.head.value) (map g.N.Exact.rational c.args.tolls.items) c.args.paths.items (item_of g.N.Exact.rational c.args.item) (below c.args.measured.now c.args.paths.items c.requires.stage.part.some)
     c.push.new.self.items c.in_ok-path.path s c.in_ok-push.ensures.items (c.in_ok-path.ensures.said ∙ named (limit_of g.N.Exact.WIDTH) (item_of g.N.Exact.rational c.args.item) c.instance-instance.ensures.instance (ap (map g.N.Exact.rational) c.deref.ensures.value) (c.len.ensures ∙ c.args.paths.ok.0)) stands)

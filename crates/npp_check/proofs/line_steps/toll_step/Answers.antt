@@ -15,10 +15,10 @@ named i d e = λ t. toll_line (d t) (e t) i
 
 pub returns-in_err-toll : goal.returns-in_err-toll
 returns-in_err-toll g c =
-    refused_so g.N.Exact.rational (limit_of g.N.Exact.WIDTH) c.args.measured.now (AtTolls (head_value g.N.Exact.rational c.args.head) (toll_count c.args.measured.now.net.arcs - length c.args.tolls.items) (map g.N.Exact.rational c.args.tolls.items)) (item_of g.N.Exact.rational c.args.item.now) c.in_err-toll.field-0.0 c.from_residual.result c.from_residual.ensures.1
-    (toll_breaks g.N.Exact.rational (limit_of g.N.Exact.WIDTH) c.args.measured.now (head_value g.N.Exact.rational c.args.head) c.args.tolls.items (item_of g.N.Exact.rational c.args.item.now) c.requires c.in_err-toll.field-0.0 (c.in_err-toll.ensures ∙ named (item_of g.N.Exact.rational c.args.item.now) c.instance-instance.ensures.instance (c.len.ensures ∙ c.args.tolls.ok.0)))
+    refused_so g.N.Exact.rational (limit_of g.N.Exact.WIDTH) c.args.measured.now (AtTolls (head_value g.N.Exact.rational c.args.head.value) (toll_count c.args.measured.now.net.arcs - length c.args.tolls.items) (map g.N.Exact.rational c.args.tolls.items)) (item_of g.N.Exact.rational c.args.item.now) c.in_err-toll.field-0.0 c.from_residual.result c.from_residual.ensures.1
+    (toll_breaks g.N.Exact.rational (limit_of g.N.Exact.WIDTH) c.args.measured.now (head_value g.N.Exact.rational c.args.head.value) c.args.tolls.items (item_of g.N.Exact.rational c.args.item.now) c.requires c.in_err-toll.field-0.0 (c.in_err-toll.ensures ∙ named (item_of g.N.Exact.rational c.args.item.now) c.instance-instance.ensures.instance (c.len.ensures ∙ c.args.tolls.ok.0)))
 
 pub returns : goal.returns
 returns g c =
-    toll_goes g.N.Exact.rational (limit_of g.N.Exact.WIDTH) c.args.measured.now (head_value g.N.Exact.rational c.args.head) c.args.tolls.items (item_of g.N.Exact.rational c.args.item.now) c.requires
+    toll_goes g.N.Exact.rational (limit_of g.N.Exact.WIDTH) c.args.measured.now (head_value g.N.Exact.rational c.args.head.value) c.args.tolls.items (item_of g.N.Exact.rational c.args.item.now) c.requires
     c.push.new.self.items c.in_ok-toll.toll (stage_value g.N.Exact.rational c.args.measured.now.net c.tolls_stage.result) c.in_ok-push.ensures.items (c.in_ok-toll.ensures ∙ named (item_of g.N.Exact.rational c.args.item.now) c.instance-instance.ensures.instance (c.len.ensures ∙ c.args.tolls.ok.0)) c.tolls_stage.ensures

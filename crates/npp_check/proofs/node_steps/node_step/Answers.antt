@@ -5,6 +5,7 @@ use Rattle.npp_rows.specs.declared.names.Multiplier.{Multiplier}
 use Rattle.npp_rows.specs.Meaning.{cut_value, multiplier_value}
 use Rattle.npp_rows.specs.Parts.{is_full}
 use Rattle.npp_tree.specs.Bounds.{bound_value, greater}
+use Rattle.npp_tree.specs.Family.{Family}
 use Rattle.npp_tree.specs.Items.{item_of}
 use Rattle.npp_check.specs.declared.block.Opening.TheVariants.{NotOpened, Marked, Answered}
 use Rattle.npp_check.specs.declared.descent.Descent.{Descent}
@@ -26,13 +27,13 @@ returns-in_err-opening g c =
     let d = c.args.descent.value in
     refused_so v (limit_of g.N.Exact.WIDTH) c.args.measured.now (nodes_value v d) (item_of v c.args.item.now) c.in_err-opening.field-0.0 c.from_residual.result c.from_residual.ensures.1
     (opening_breaks (limit_of g.N.Exact.WIDTH) c.args.measured.now (known_value v d.known) d.places.later (sum_value d.sum) d.places.first (item_of v c.args.item.now) c.in_err-opening.field-0.0
-    (sym (c.in_err-opening.ensures ∙ ap (λ b. opening_line b (item_of v c.args.item.now)) (c.is_full-full.ensures ∙ ap is_full (c.allowed.ensures ∙ ap (λ (x : Descent g.row.N.Denot). x.places.first.parts) c.deref.ensures)))))
+    (sym (c.in_err-opening.ensures ∙ ap (λ (f : Family). opening_line (is_full f) (item_of v c.args.item.now)) (c.allowed.ensures ∙ ap (λ (x : Descent g.row.N.Denot). x.places.first.parts) c.deref.ensures))))
 
 pub returns-in-NotOpened : goal.returns-in-NotOpened
 returns-in-NotOpened g c =
     let v = g.N.Exact.rational in
     let d = c.args.descent.value in
-    let judged = sym (c.in_ok-opening.ensures ∙ ap (λ b. opening_line b (item_of v c.args.item.now)) (c.is_full-full.ensures ∙ ap is_full (c.allowed.ensures ∙ ap (λ (x : Descent g.row.N.Denot). x.places.first.parts) c.deref.ensures))) ∙ ap Ok c.in-NotOpened.is in
+    let judged = sym (c.in_ok-opening.ensures ∙ ap (λ (f : Family). opening_line (is_full f) (item_of v c.args.item.now)) (c.allowed.ensures ∙ ap (λ (x : Descent g.row.N.Denot). x.places.first.parts) c.deref.ensures)) ∙ ap Ok c.in-NotOpened.is in
     moved v (limit_of g.N.Exact.WIDTH) c.args.measured.now (nodes_value v d)
     (AtNodes (known_value v d.known) d.places.later (record { opened = d.sum.opened; bound = greater (bound_value d.sum.bound) (first_before c.args.measured.now.net d) })) (item_of v c.args.item.now) c.leave_open.result
     (opening_reads (limit_of g.N.Exact.WIDTH) c.args.measured.now (known_value v d.known) d.places.later (sum_value d.sum) d.places.first (item_of v c.args.item.now) NotOpened judged)
@@ -43,7 +44,7 @@ pub returns-in-Marked : goal.returns-in-Marked
 returns-in-Marked g c =
     let v = g.N.Exact.rational in
     let d = c.args.descent.value in
-    let judged = sym (c.in_ok-opening.ensures ∙ ap (λ b. opening_line b (item_of v c.args.item.now)) (c.is_full-full.ensures ∙ ap is_full (c.allowed.ensures ∙ ap (λ (x : Descent g.row.N.Denot). x.places.first.parts) c.deref.ensures))) ∙ ap Ok c.in-Marked.is in (
+    let judged = sym (c.in_ok-opening.ensures ∙ ap (λ (f : Family). opening_line (is_full f) (item_of v c.args.item.now)) (c.allowed.ensures ∙ ap (λ (x : Descent g.row.N.Denot). x.places.first.parts) c.deref.ensures)) ∙ ap Ok c.in-Marked.is in (
       λ number items.
           opening_reads (limit_of g.N.Exact.WIDTH) c.args.measured.now (known_value v d.known) d.places.later (sum_value d.sum) d.places.first (item_of v c.args.item.now) (Marked c.in-Marked.field-0) judged number items
           ∙ ap (λ b. at_branch (limit_of g.N.Exact.WIDTH) c.args.measured.now (known_value v d.known) d.places.later (sum_value d.sum) d.places.first.parts b (record { number = number + 1; items = items })) (sym (c.bound_before-bound.ensures ∙ ap (first_before c.args.measured.now.net) c.deref-in-Marked.ensures)),
@@ -53,8 +54,7 @@ returns-in-Marked g c =
 pub begin_block-requires-clause-kind : goal.begin_block-requires-clause-kind
 begin_block-requires-clause-kind g c =
     let v = g.N.Exact.rational in
-    let full = c.is_full-full.ensures ∙ ap is_full (c.allowed.ensures ∙ ap (λ (x : Descent g.row.N.Denot). x.places.first.parts) c.deref.ensures) in
-    let judged = sym (c.in_ok-opening.ensures ∙ ap (λ b. opening_line b (item_of v c.args.item.now)) full) ∙ ap Ok c.in-Answered.is in
+    let judged = sym (c.in_ok-opening.ensures ∙ ap (λ (f : Family). opening_line (is_full f) (item_of v c.args.item.now)) (c.allowed.ensures ∙ ap (λ (x : Descent g.row.N.Denot). x.places.first.parts) c.deref.ensures)) ∙ ap Ok c.in-Answered.is in
     answered_kind v (is_full c.args.descent.value.places.first.parts) c.args.item.now c.in-Answered.answer c.in-Answered.left judged
 
 pub begin_block-requires-clause-rows : goal.begin_block-requires-clause-rows
@@ -68,7 +68,7 @@ returns-in-Answered g c =
     let v = g.N.Exact.rational in
     let d = c.args.descent.value in
     let limit = limit_of g.N.Exact.WIDTH in
-    let judged = sym (c.in_ok-opening.ensures ∙ ap (λ b. opening_line b (item_of v c.args.item.now)) (c.is_full-full.ensures ∙ ap is_full (c.allowed.ensures ∙ ap (λ (x : Descent g.row.N.Denot). x.places.first.parts) c.deref.ensures))) ∙ ap Ok c.in-Answered.is in
+    let judged = sym (c.in_ok-opening.ensures ∙ ap (λ (f : Family). opening_line (is_full f) (item_of v c.args.item.now)) (c.allowed.ensures ∙ ap (λ (x : Descent g.row.N.Denot). x.places.first.parts) c.deref.ensures)) ∙ ap Ok c.in-Answered.is in
     let none : map (multiplier_value v) c.new.result.items ≡ [] = ap (map (multiplier_value v)) c.new.ensures.items in
     step_leads limit c.args.measured.now (nodes_value v d) (item_of v c.args.item.now)
     (from_multipliers limit c.args.measured.now (known_value v d.known) d.places.later (sum_value d.sum) d.places.first c.in-Answered.answer c.in-Answered.left (map (multiplier_value v) c.new.result.items))

@@ -1,4 +1,4 @@
-use Rattle.std.proofs.Common.{ap, sym, subst, ◌∙◌, [], Option, refl}
+use Rattle.std.proofs.Common.{ap, sym, subst, ◌∙◌, [], Option, Ok, refl}
 use Rattle.npp_frac.specs.Fits.{limit_of}
 use Rattle.npp_net.specs.Network.{IsNetwork}
 use Rattle.npp_check.specs.declared.refusal.Rule.TheVariants.{Order}
@@ -6,10 +6,11 @@ use Rattle.npp_check.specs.declared.refusal.CheckRefusal.{CheckRefusal}
 use Rattle.npp_check.specs.declared.refusal.CheckRefusal.TheVariants.{Broken}
 use Rattle.npp_check.specs.Checking.{Checking, verdict_with, IsEndRefusal}
 use Rattle.npp_check.specs.Stages.{Stage}
-use Rattle.npp_check.specs.StageValue.{stage_value}
+use Rattle.npp_check.specs.StageValue.{pair_of, stage_value}
 use Rattle.npp_check.proofs.CheckerLemmas.{standing, finishes, finishes_well}
 use Rattle.npp_check.proofs.YesLemmas.{end_is_right}
 use Rattle.npp_check.specs.Verdict.{pair_value}
+use Rattle.npp_check.specs.declared.descent.Descent.{Descent}
 use Rattle.npp_check.proofs.checker.Checker.finish.Goals as goal
 
 pub returns-clause-verdict : goal.returns-clause-verdict
@@ -26,9 +27,10 @@ returns-clause-cause g c =
 pub returns-in-Behind-clause-verdict : goal.returns-in-Behind-clause-verdict
 returns-in-Behind-clause-verdict g c =
     ap (λ (x : Checking). verdict_with (limit_of g.N.Exact.WIDTH) x []) (sym c.self.view_is)
-    ∙ finishes_well g.N.Exact.rational (limit_of g.N.Exact.WIDTH) c.self.inside.measured c.self.inside.number c.self.inside.stage c.self.inside.refused c.in-Behind.pair c.in_default.is c.in-Behind.is
+    ∙ finishes_well g.N.Exact.rational (limit_of g.N.Exact.WIDTH) c.self.inside.measured c.self.inside.number c.self.inside.stage c.self.inside.refused c.in-Behind.tree c.in_default.is c.in-Behind.is
+    ∙ ap Ok (sym (c.pair_of.ensures ∙ ap (λ (d : Descent g.row.N.Denot). pair_of g.N.Exact.rational d.known.head) c.deref.ensures))
 
 pub returns-in-Behind-clause-proves : goal.returns-in-Behind-clause-proves
 returns-in-Behind-clause-proves g c = λ items taken.
-    end_is_right (limit_of g.N.Exact.WIDTH) c.args.self items (pair_value c.in-Behind.pair) (subst (λ (x : Checking). IsNetwork x.on.net) c.self.view_is c.instance-net.ensures.limits) taken
+    end_is_right (limit_of g.N.Exact.WIDTH) c.args.self items (pair_value c.pair_of.result) (subst (λ (x : Checking). IsNetwork x.on.net) c.self.view_is c.instance-net.ensures.limits) taken
     (returns-in-Behind-clause-verdict g c)
