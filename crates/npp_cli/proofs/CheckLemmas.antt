@@ -4,20 +4,22 @@ use Rattle.std.specs.Bool.{⊤}
 use Rattle.npp_outside.specs.Shelf.{Files, file_at}
 use Rattle.npp_frac.specs.Fits.{limit_of}
 use Rattle.npp_net.specs.Network.{Network, no_commodity}
-use Rattle.npp_bounds.specs.Spans.{AllHaveFreePaths}
+use Rattle.npp_bounds.specs.declared.refusal.BoundsRefusal.TheVariants as bounds
+use Rattle.npp_bounds.specs.Spans.{AllHaveFreePaths, IsBoundsRefusal}
 use Rattle.npp_tree.specs.declared.outcome.Pair.{Pair}
 use Rattle.npp_check.specs.declared.refusal.CheckRefusal.TheVariants.{Broken}
 use Rattle.npp_check.specs.declared.refusal.Rule.{Rule}
-use Rattle.npp_check.specs.Measures.{Measures}
+use Rattle.npp_check.specs.Measures.{Measures, AreMeasures}
 use Rattle.npp_check.specs.Verdict.{PairValue, Verdict, IsVerdict, pair_value}
 use Rattle.npp_check.proofs.MeasureLemmas.{one_verdict}
 use Rattle.npp_stream.specs.declared.refusal.FileRefusal.{FileRefusal}
 use Rattle.npp_stream.specs.declared.refusal.FileRefusal.TheVariants as file
-use Rattle.npp_stream.specs.TextVerdicts.{AnswersContent, AnswersFile, HasFileCause, IsAcceptedText, bytes_verdict}
+use Rattle.npp_stream.specs.TextVerdicts.{AnswersContent, AnswersFile, HasFileCause, IsAcceptedText, MeasuresFile, bytes_verdict}
 use Rattle.npp_stream.proofs.StreamLemmas.{written_verdict}
+use Rattle.npp_eval.proofs.EvalLaws.{all_have_free_paths}
 use Rattle.npp_cli.specs.declared.words.CertificateJob.{CertificateJob}
 use Rattle.npp_cli.specs.declared.words.CertificateJob.TheVariants.{Check, Upgrade}
-use Rattle.npp_cli.specs.Answers.{AnswersHeld}
+use Rattle.npp_cli.specs.Answers.{AnswersConnected, AnswersHeld, AnswersJudged}
 use Rattle.npp_cli.specs.Checked.{AnswersCheck, AnswersFileRefusal, IsJudged, IsRefused, IsTaken, accepted_text}
 use Rattle.npp_cli.specs.Runs.{HasAnswerCause}
 use Rattle.npp_cli.specs.Texts.{shelf_fault_text}
@@ -30,7 +32,7 @@ module _ (net : Network) (name : List ℕ) (status : ℕ) (text : List ℕ) wher
   accepted_content (Some bytes) pair checked is says =
       inl (inl (record { within = checked.0; pair = pair_value pair; accepted = checked.1; is_text = says; is_status = is }))
 
-  pub accepted_answered : (held : Option Files) (pair : Pair) → AnswersFile net held name (Ok pair)
+  accepted_answered : (held : Option Files) (pair : Pair) → AnswersFile net held name (Ok pair)
       → status ≡ 0 → text ≡ accepted_text (pair_value pair) → AnswersHeld (AnswersCheck net name) held name status text
   accepted_answered None pair checked is says = inr (checked.0, accepted_content checked.0 pair checked.1 is says)
   accepted_answered (Some files) pair checked is says = inr (accepted_content (file_at files name) pair checked is says)
@@ -66,10 +68,43 @@ module _ (net : Network) (name : List ℕ) (status : ℕ) (text : List ℕ) wher
   untold content (inl failed) = inl failed
   untold content (inr answers) = inr (content, answers)
 
-  pub refused_answered : AllHaveFreePaths net.arcs net.commodities → (held : Option Files) (refusal : FileRefusal) → AnswersFile net held name (Err refusal)
+  refused_answered : AllHaveFreePaths net.arcs net.commodities → (held : Option Files) (refusal : FileRefusal) → AnswersFile net held name (Err refusal)
       → AnswersFileRefusal name refusal status text → AnswersHeld (AnswersCheck net name) held name status text
   refused_answered connected None refusal checked says = untold checked.0 (refused_content connected checked.0 refusal checked.1 says)
   refused_answered connected (Some files) refusal checked says = refused_content connected (file_at files name) refusal checked says
+
+  -- ---- for an instance
+
+  -- a measured instance has a toll-free walk for each commodity
+  measured_answers : (held : Option Files) (f : Measures) → AreMeasures net f → AnswersHeld (AnswersCheck net name) held name status text → AnswersJudged Check held name net status text
+  measured_answers held f are answers = inr (all_have_free_paths net.arcs net.commodities f.spans are.spans, answers)
+
+  -- the refusal of a commodity, whatever stands in the file
+  no_walk_there : (content : Option (List ℕ)) (k : ℕ) → AnswersContent net content (Err (file.NoFreePath k)) → IsBoundsRefusal net.arcs net.commodities (bounds.NoFreePath k)
+  no_walk_there None k checked = checked
+  no_walk_there (Some bytes) k checked = checked
+
+  no_walk : (held : Option Files) (k : ℕ) → AnswersFile net held name (Err (file.NoFreePath k)) → IsBoundsRefusal net.arcs net.commodities (bounds.NoFreePath k)
+  no_walk None k checked = no_walk_there checked.0 k checked.1
+  no_walk (Some files) k checked = no_walk_there (file_at files name) k checked
+
+  by_refusal : (held : Option Files) (refusal : FileRefusal) (f : Measures) → AreMeasures net f → AnswersFile net held name (Err refusal)
+      → AnswersFileRefusal name refusal status text → AnswersJudged Check held name net status text
+  by_refusal held refusal f are checked says =
+      measured_answers held f are (refused_answered (all_have_free_paths net.arcs net.commodities f.spans are.spans) held refusal checked says)
+
+  pub accepted_judged : (held : Option Files) (pair : Pair) → AnswersFile net held name (Ok pair) → MeasuresFile net (Ok pair)
+      → status ≡ 0 → text ≡ accepted_text (pair_value pair) → AnswersJudged Check held name net status text
+  accepted_judged held pair checked measured is says = measured_answers held measured.0 measured.1 (accepted_answered held pair checked is says)
+
+  pub refused_judged : (held : Option Files) (refusal : FileRefusal) → AnswersFile net held name (Err refusal) → MeasuresFile net (Err refusal)
+      → AnswersFileRefusal name refusal status text → AnswersJudged Check held name net status text
+  refused_judged held (file.NoFreePath k) checked measured says = inl (k, no_walk held k checked, says.0, says.1)
+  refused_judged held file.Missing checked measured says = by_refusal held file.Missing measured.0 measured.1 checked says
+  refused_judged held file.Failed checked measured says = by_refusal held file.Failed measured.0 measured.1 checked says
+  refused_judged held file.TooLong checked measured says = by_refusal held file.TooLong measured.0 measured.1 checked says
+  refused_judged held (file.Broken number rule) checked measured says = by_refusal held (file.Broken number rule) measured.0 measured.1 checked says
+  refused_judged held file.Memory checked measured says = absurd says
 
 -- success has no status of the shelf
 pub done_cause : (faults now_faults misses now_misses status : ℕ) → status ≡ 0 → HasAnswerCause faults now_faults misses now_misses status

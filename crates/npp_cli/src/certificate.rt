@@ -1,15 +1,13 @@
 //! The jobs on an instance and a certificate for it, in two files.
 ghost use Rattle.std.specs.Prelude.{◌≡◌, IfOk};
-ghost use Rattle.npp_bounds.specs.Spans.{AllHaveFreePaths};
 ghost use Rattle.npp_cli.specs.Answer.{answer_text};
-ghost use Rattle.npp_cli.specs.Answers.{AnswersCertificate, AnswersHeld, AnswersJudged, AnswersWithCertificate};
+ghost use Rattle.npp_cli.specs.Answers.{AnswersJudged, AnswersWithCertificate};
 ghost use Rattle.npp_cli.specs.Runs.{HasAnswerCause};
 
-use crate::answers::{Answer, faulty_line, no_free_path};
+use crate::answers::{Answer, faulty_line};
 use crate::check::check;
-use crate::upgrade::upgrade_file;
+use crate::upgrade::upgrade_certificate;
 use crate::words::CertificateJob;
-use npp_bounds::{BoundsRefusal, free_and_zero};
 use npp_net::{Instance, Memory};
 use npp_outside::Shelf;
 use npp_reader::{ReadRefusal, read};
@@ -37,8 +35,6 @@ pub fn certificate_on_bytes<S: Shelf>(
 }
 
 // The answer about the certificate in the file of this name, for an instance.
-//
-// A commodity without a toll-free walk is refused before the file is asked for.
 fn certificate_on_instance<S: Shelf>(
     alloc: Global,
     job: CertificateJob,
@@ -50,28 +46,8 @@ fn certificate_on_instance<S: Shelf>(
     ensures answer { IfOk result (λ answer. AnswersJudged job (S.held shelf.old) certificate.now instance.now answer.status (answer_text answer)) }
     ensures cause { IfOk result (λ answer. HasAnswerCause (S.faults shelf.old) (S.faults shelf.new) (S.misses shelf.old) (S.misses shelf.new) answer.status) }
 {
-    match free_and_zero(alloc, instance) {
-        Ok(_spans) => judge(alloc, job, instance, certificate, shelf),
-        Err(BoundsRefusal::NoFreePath(k)) => no_free_path(alloc, k),
-        Err(BoundsRefusal::Memory) => Err(Memory),
-    }
-}
-
-// The answer about the certificate in the file of this name, where each commodity has a toll-free walk.
-fn judge<S: Shelf>(
-    alloc: Global,
-    job: CertificateJob,
-    instance: &Instance,
-    certificate: &str,
-    shelf: &mut S,
-) -> Result<Answer, Memory>
-    requires { AllHaveFreePaths instance.now.arcs instance.now.commodities }
-    ensures held { S.held shelf.new ≡ S.held shelf.old }
-    ensures answer { IfOk result (λ answer. AnswersHeld (AnswersCertificate job instance.now certificate.now) (S.held shelf.old) certificate.now answer.status (answer_text answer)) }
-    ensures cause { IfOk result (λ answer. HasAnswerCause (S.faults shelf.old) (S.faults shelf.new) (S.misses shelf.old) (S.misses shelf.new) answer.status) }
-{
     match job {
         CertificateJob::Check => check(alloc, instance, certificate, shelf),
-        CertificateJob::Upgrade => upgrade_file(alloc, instance, certificate, shelf),
+        CertificateJob::Upgrade => upgrade_certificate(alloc, instance, certificate, shelf),
     }
 }

@@ -1,10 +1,10 @@
 //! The job `check`: whether the text of a file is a certificate for an instance, and which two values it then proves.
 ghost use Rattle.std.specs.Prelude.{◌≡◌, ◌++◌, IfOk, codes};
-ghost use Rattle.npp_bounds.specs.Spans.{AllHaveFreePaths};
 ghost use Rattle.npp_check.specs.Verdict.{pair_value};
 ghost use Rattle.npp_cli.specs.Answer.{IsAnswer, answer_text};
-ghost use Rattle.npp_cli.specs.Answers.{AnswersHeld};
-ghost use Rattle.npp_cli.specs.Checked.{AnswersCheck, AnswersFileRefusal, accepted_text, refused_certificate_text};
+ghost use Rattle.npp_cli.specs.declared.words.CertificateJob.TheVariants.{Check};
+ghost use Rattle.npp_cli.specs.Answers.{AnswersJudged};
+ghost use Rattle.npp_cli.specs.Checked.{AnswersFileRefusal, accepted_text, refused_certificate_text};
 ghost use Rattle.npp_cli.specs.RuleWords.{fault_word, rule_word};
 ghost use Rattle.npp_cli.specs.Runs.{HasAnswerCause};
 
@@ -20,16 +20,17 @@ use npp_tree::Pair;
 use std::alloc::Global;
 use std::fmt::Write;
 
-/// The answer about the certificate in the file of this name, where each commodity has a toll-free walk.
+/// The answer about the certificate in the file of this name.
+///
+/// A commodity without a toll-free walk is refused before the file is asked for.
 pub fn check<S: Shelf>(
     alloc: Global,
     instance: &Instance,
     certificate: &str,
     shelf: &mut S,
 ) -> Result<Answer, Memory>
-    requires { AllHaveFreePaths instance.now.arcs instance.now.commodities }
     ensures held { S.held shelf.new ≡ S.held shelf.old }
-    ensures answer { IfOk result (λ answer. AnswersHeld (AnswersCheck instance.now certificate.now) (S.held shelf.old) certificate.now answer.status (answer_text answer)) }
+    ensures answer { IfOk result (λ answer. AnswersJudged Check (S.held shelf.old) certificate.now instance.now answer.status (answer_text answer)) }
     ensures cause { IfOk result (λ answer. HasAnswerCause (S.faults shelf.old) (S.faults shelf.new) (S.misses shelf.old) (S.misses shelf.new) answer.status) }
 {
     match check_file(alloc, instance, shelf, certificate) {

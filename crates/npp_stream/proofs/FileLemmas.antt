@@ -7,12 +7,12 @@ use Rattle.npp_net.specs.Network.{Network}
 use Rattle.npp_tree.specs.declared.outcome.Pair.{Pair}
 use Rattle.npp_check.specs.declared.refusal.CheckRefusal.{CheckRefusal}
 use Rattle.npp_check.specs.declared.refusal.CheckRefusal.TheVariants.{Broken, Memory}
-use Rattle.npp_check.specs.Measures.{Measures}
+use Rattle.npp_check.specs.Measures.{Measures, AreMeasures}
 use Rattle.npp_stream.specs.declared.refusal.FileRefusal.{FileRefusal}
 use Rattle.npp_stream.specs.declared.refusal.FileRefusal.TheVariants as file
 use Rattle.npp_stream.specs.declared.stream.TextCheck.{TextCheck}
 use Rattle.npp_stream.specs.Refusals.{line_refusal, file_refusal}
-use Rattle.npp_stream.specs.TextVerdicts.{IsTextRefusal, certificate_limit, AnswersBytes, AnswersContent, AnswersFile}
+use Rattle.npp_stream.specs.TextVerdicts.{IsTextRefusal, certificate_limit, AnswersBytes, AnswersContent, AnswersFile, MeasuresFile}
 use Rattle.npp_stream.specs.Stream.{HasBytes, TakesBytes, Ends}
 
 -- so many bytes were taken of what stands under the name, and these are the first of them, up to the limit
@@ -31,6 +31,16 @@ pub record IsUnderWay (limit : ℕ) (net : Network) (held : Option Files) (name 
   pub judged : HasBytes net measures front t
   pub size : length front ≡ min taken limit
   pub told : IsFront limit held name taken front
+
+-- whatever the answer
+pub is_measured : (net : Network) (f : Measures) → AreMeasures net f → (result : Result Pair FileRefusal) → MeasuresFile net result
+is_measured net f are (Ok pair) = (f, are)
+is_measured net f are (Err (file.NoFreePath k)) = tt
+is_measured net f are (Err file.Missing) = (f, are)
+is_measured net f are (Err file.Failed) = (f, are)
+is_measured net f are (Err file.TooLong) = (f, are)
+is_measured net f are (Err (file.Broken line rule)) = (f, are)
+is_measured net f are (Err file.Memory) = tt
 
 -- ---- bytes
 

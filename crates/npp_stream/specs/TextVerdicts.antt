@@ -76,6 +76,16 @@ abbrev pub AnswersFile : Network → Option Files → List ℕ → Result Pair F
 AnswersFile net None name result = (content : Option (List ℕ)) × AnswersContent net content result
 AnswersFile net (Some files) name result = AnswersContent net (file_at files name) result
 
+-- the instance is measured, so that each commodity has a toll-free walk, unless the answer is that one has none, or memory is wanting
+abbrev pub MeasuresFile : Network → Result Pair FileRefusal → Type 0
+MeasuresFile net (Ok pair) = (f : Measures) × AreMeasures net f
+MeasuresFile net (Err (file.NoFreePath k)) = ⊤
+MeasuresFile net (Err file.Missing) = (f : Measures) × AreMeasures net f
+MeasuresFile net (Err file.Failed) = (f : Measures) × AreMeasures net f
+MeasuresFile net (Err file.TooLong) = (f : Measures) × AreMeasures net f
+MeasuresFile net (Err (file.Broken line rule)) = (f : Measures) × AreMeasures net f
+MeasuresFile net (Err file.Memory) = ⊤
+
 -- each refusal of the shelf has raised its count
 pub record HasFileCause {T : Type 0} (faults now_faults misses now_misses : ℕ) (result : Result T FileRefusal) : Type 0 where
   pub faults_stay : faults ≤ now_faults

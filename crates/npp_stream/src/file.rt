@@ -2,7 +2,7 @@
 
 ghost use Rattle.std.specs.Prelude.{◌≡◌, ℕ, List, IfOk, length};
 ghost use Rattle.npp_check.specs.Verdict.{pair_value};
-ghost use Rattle.npp_stream.specs.TextVerdicts.{AnswersFile, HasFileCause, IsAcceptedText};
+ghost use Rattle.npp_stream.specs.TextVerdicts.{AnswersFile, HasFileCause, IsAcceptedText, MeasuresFile};
 
 use crate::refusal::FileRefusal;
 use crate::stream::TextCheck;
@@ -20,7 +20,8 @@ const LIMIT: u64 = 1_099_511_627_776;
 /// The pair of both values, where the bytes of the file are the text of a certificate for the instance; or why not.
 ///
 /// Each line is judged before more bytes are asked for, so what is met first is answered, however short the pieces are that
-/// the shelf gives. Bytes beyond the limit of 2^40 are not judged. A pair proves what it does in `check_text`.
+/// the shelf gives. Bytes beyond the limit of 2^40 are not judged. A pair proves what it does in `check_text`. Where a commodity
+/// has no toll-free walk the file is not asked for.
 pub fn check_file<S: Shelf>(
     alloc: Global,
     instance: &Instance,
@@ -30,6 +31,7 @@ pub fn check_file<S: Shelf>(
     ensures held { S.held shelf.new ≡ S.held shelf.old }
     ensures answer { AnswersFile instance.now (S.held shelf.old) name.now result }
     ensures proves { IfOk result (λ p. (bytes : List ℕ) × IsAcceptedText instance.now bytes (pair_value p)) }
+    ensures measured { MeasuresFile instance.now result }
     ensures cause { HasFileCause (S.faults shelf.old) (S.faults shelf.new) (S.misses shelf.old) (S.misses shelf.new) result }
 {
     let mut check = TextCheck::new(alloc, instance)?;

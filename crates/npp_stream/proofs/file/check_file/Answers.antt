@@ -1,7 +1,8 @@
 use Rattle.std.proofs.Common.{◌∙◌, ◌<◌, subst, ℕ, List, length, Option, Ok, Err, arith}
 use Rattle.npp_outside.specs.Shelf.{Files, GivesPiece}
+use Rattle.npp_stream.specs.declared.refusal.FileRefusal.TheVariants as file
 use Rattle.npp_stream.specs.TextVerdicts.{certificate_limit}
-use Rattle.npp_stream.proofs.FileLemmas.{goes_on, stops, ended, file_refused, passes_limit}
+use Rattle.npp_stream.proofs.FileLemmas.{goes_on, stops, ended, file_refused, passes_limit, is_measured}
 use Rattle.npp_stream.proofs.file.check_file.Goals as goal
 
 pub returns-in_err-finish-clause-answer : goal.returns-in_err-finish-clause-answer
@@ -50,3 +51,18 @@ loop-taken-preserved g c =
 
 pub returns-clause-answer : goal.returns-clause-answer
 returns-clause-answer g c = passes_limit c.args.instance.now (g.S.Shelf.held c.args.shelf.now) c.args.name.now c.loop-taken.taken c.loop-taken.check c.loop-taken-test.false c.loop-taken.invariant.under_way
+
+pub returns-in_err-count-clause-measured : goal.returns-in_err-count-clause-measured
+returns-in_err-count-clause-measured g c = let way = c.loop-taken.invariant.under_way in is_measured c.args.instance.now way.measures way.judged.measures c.from_residual-in_err-count.result
+
+pub returns-then-count-eq0-clause-measured : goal.returns-then-count-eq0-clause-measured
+returns-then-count-eq0-clause-measured g c = let way = c.loop-taken.invariant.under_way in is_measured c.args.instance.now way.measures way.judged.measures (Ok c.in_ok-finish.field-0)
+
+pub returns-in_err-finish-clause-measured : goal.returns-in_err-finish-clause-measured
+returns-in_err-finish-clause-measured g c = let way = c.loop-taken.invariant.under_way in is_measured c.args.instance.now way.measures way.judged.measures c.from_residual-in_err-finish.result
+
+pub returns-in_err-take-clause-measured : goal.returns-in_err-take-clause-measured
+returns-in_err-take-clause-measured g c = let way = c.loop-taken.invariant.under_way in is_measured c.args.instance.now way.measures way.judged.measures c.from_residual-in_err-take.result
+
+pub returns-clause-measured : goal.returns-clause-measured
+returns-clause-measured g c = let way = c.loop-taken.invariant.under_way in is_measured c.args.instance.now way.measures way.judged.measures (Err file.TooLong)
