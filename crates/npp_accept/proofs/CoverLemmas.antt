@@ -2,6 +2,7 @@
 use Rattle.std.specs.Prelude.{◌≡◌, ℕ, ◌+◌, ◌<◌, ◌≤◌, Bool, true, false, not, nat_lt, List, [], ◌∷◌, ◌++◌, length, map, slice_index_or, Option, Some, None, MatchOption, option_map, Result, Ok, refl}
 use Rattle.std.specs.List.{cons_option}
 use Rattle.std.proofs.Common.{arith, ap, sym, ◌∙◌, subst, append_assoc}
+use Rattle.std.proofs.lemmas.Bool.{le-ltb}
 use Rattle.std.proofs.lemmas.List.{length-append, append-nil}
 use Rattle.std.proofs.lemmas.List.Sums.{sum_by-cons, sum_by-append}
 use Rattle.std.proofs.Math.ListN.{get_or-append}
@@ -12,7 +13,6 @@ use Rattle.npp_net.specs.declared.types.NetArc.{NetArc}
 use Rattle.npp_net.specs.declared.types.Commodity.{Commodity}
 use Rattle.npp_net.specs.declared.types.Span.{Span}
 use Rattle.npp_net.specs.Network.{Network, IsNetwork, no_commodity}
-use Rattle.npp_net.specs.Distance.{IsLeast, IsSpan}
 use Rattle.npp_cover.specs.declared.label.Label.{Label}
 use Rattle.npp_cover.specs.declared.label.StepDraft.{StepDraft}
 use Rattle.npp_cover.specs.declared.fault.CoverFault.{CoverFault}
@@ -24,6 +24,7 @@ use Rattle.npp_cover.specs.Labels.{no_label, label_at, start_label, label_after,
 use Rattle.npp_cover.specs.Paths.{PathValue, path_of, free_path}
 use Rattle.npp_cover.specs.Replaces.{CoverValue, IsCoverOf}
 use Rattle.npp_cover.specs.Useful.{commodity_at}
+use Rattle.npp_cover.proofs.DraftLaws.{no_closing_fault}
 use Rattle.npp_cover.proofs.DraftLabels.{GivesLabels, gives_labels}
 use Rattle.npp_cover.proofs.OnwardLaws.{AreOnward}
 use Rattle.npp_labels.specs.Covers.{IsUsefulCover, AreUsefulCovers}
@@ -41,23 +42,11 @@ use Rattle.npp_check.specs.Measures.{Measures, AreMeasures, span_of, onward_of}
 use Rattle.npp_check.specs.Reads.{line, more, ◌>>=◌}
 use Rattle.npp_check.specs.Rules.{broken_if}
 use Rattle.npp_check.proofs.CoverLemmas.{neither}
+use Rattle.npp_check.proofs.MeasureLemmas.{one_span}
 use Rattle.npp_check.proofs.MeasureReads.{span_is, distances_are}
 use Rattle.npp_check.proofs.RankOrder.{one_cover_of}
-use Rattle.npp_accept.proofs.ClosingFaults.{no_closing_fault}
 use Rattle.npp_accept.proofs.GivesLemmas.{Gives, gives_as, gives_done, gives_line, gives_bind}
-use Rattle.npp_accept.proofs.Passes.{not_less_test, passes, numbered_so, faultless}
-
--- ---- the span of a commodity is one
-
-one_least : (arcs : List NetArc) (tolls : Bool) (u v a b : ℕ) → IsLeast arcs tolls u v a → IsLeast arcs tolls u v b → a ≡ b
-one_least arcs tolls u v a b h j =
-    omega (arith, h.least j.attained.0 j.attained.1, j.least h.attained.0 h.attained.1, h.attained.2, j.attained.2)
-
-one_span : (arcs : List NetArc) (k : Commodity) (s t : Span) → IsSpan arcs k s → IsSpan arcs k t → s ≡ t
-one_span arcs k s t h j =
-    let a : s.free ≡ t.free = one_least arcs false k.origin.0 k.destination.0 s.free t.free h.free_least j.free_least in
-    let b : s.zero ≡ t.zero = one_least arcs true k.origin.0 k.destination.0 s.zero t.zero h.zero_least j.zero_least in
-    λ i. record { free = a i; zero = b i }
+use Rattle.npp_accept.proofs.Passes.{passes, numbered_so, faultless}
 
 -- ---- the toll-free walk is the last path
 
@@ -70,7 +59,7 @@ last_of (x ∷ y ∷ xs) p = last_of (y ∷ xs) p
 
 count_says : (k n : ℕ) → n ≤ 65536 → cover_line k (item.Cover k n) ≡ Ok n
 count_says k n few =
-    numbered_so k Order (broken_if (nat_lt 65536 n) (Cover TooManyLabels) (Ok n)) ∙ passes (nat_lt 65536 n) (Cover TooManyLabels) (Ok n) (not_less_test 65536 n few)
+    numbered_so k Order (broken_if (nat_lt 65536 n) (Cover TooManyLabels) (Ok n)) ∙ passes (nat_lt 65536 n) (Cover TooManyLabels) (Ok n) (le-ltb 65536 n few)
 
 module _ (net : Network) (f : Measures) (limits : IsNetwork net) (measures : AreMeasures net f) where
   -- ---- one cover
@@ -215,7 +204,7 @@ module _ (net : Network) (f : Measures) (limits : IsNetwork net) (measures : Are
         ∙ faultless (closing_fault net.arcs (onward_of f (length above)) (commodity_at net (length above)) (span_of f (length above)) c.labels cover.made.0)
         (Judged (cover_of (commodity_at net (length above)) (span_of f (length above)).free c.labels cover.made.0)) none
         ∙ ap Judged (sym same)
-        ∙ passes (nat_lt 2000 (path_total above + length c.paths)) TooManyPaths (Ok c) (not_less_test 2000 (path_total above + length c.paths) few)
+        ∙ passes (nat_lt 2000 (path_total above + length c.paths)) TooManyPaths (Ok c) (le-ltb 2000 (path_total above + length c.paths) few)
 
     gives_cover : path_total above + length c.paths ≤ 2000 → Gives (cover_lines net f above) (cover_items (length above) c) c
     gives_cover few =

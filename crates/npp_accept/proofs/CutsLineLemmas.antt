@@ -20,6 +20,7 @@ use Rattle.npp_rows.specs.Response.{reply, path_price, path_fits, taken_path, ta
 use Rattle.npp_rows.proofs.ListLaws.{zip_size}
 use Rattle.npp_rows.proofs.ModelLaws.{demand_is}
 use Rattle.npp_inverse.proofs.CoverLaws.{has_useful_paths}
+use Rattle.npp_inverse.proofs.BestReplies.{taken_inside, taken_cheapest}
 use Rattle.npp_tree.specs.declared.outcome.PathLine.{PathLine}
 use Rattle.npp_tree.specs.declared.item.Item.TheVariants as item
 use Rattle.npp_start.specs.Walks.{reply_lines}
@@ -29,7 +30,7 @@ use Rattle.npp_check.specs.Prices.{printed_price, useful_price, none_cheaper, wa
 use Rattle.npp_check.specs.Rules.{and_then, broken_if, same, whole_number, sum_of}
 use Rattle.npp_check.proofs.CoverFacts.{are_within}
 use Rattle.npp_accept.proofs.Passes.{same_self, passes, keeps, counted_passes}
-use Rattle.npp_accept.proofs.ReplyFits.{price_fits, path_fits_wider, payment_fits, revenue_fits_wider, taken_inside, taken_cheapest, line_at, lines_size, line_is}
+use Rattle.npp_accept.proofs.ReplyFits.{price_fits, path_fits_wider, payment_fits, revenue_fits_wider, line_at, lines_size, line_is}
 
 -- ---- prices
 

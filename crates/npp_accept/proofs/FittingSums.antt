@@ -6,6 +6,7 @@ use Rattle.std.proofs.Math.Nat.{one-dvd}
 use Rattle.std.proofs.lemmas.Int.{unsigned_abs-mul}
 use Rattle.std.proofs.lemmas.List.{map-append, append-nil}
 use Rattle.std.proofs.lemmas.Nat.Gcd.{dvd_refl}
+use Rattle.std.proofs.lemmas.Bool.{and_from}
 use Rattle.npp_frac.specs.Gcd.{gcd, gcd_is}
 use Rattle.npp_frac.specs.Rational.{Rational, zero_ℚ, one_ℚ, whole, ◌+ℚ◌, ◌*ℚ◌}
 use Rattle.npp_frac.specs.Fits.{FitsBelow, FitsAdd, FitsMul, IsWidth, limit_of, fits_add}
@@ -22,7 +23,6 @@ use Rattle.npp_cover.proofs.TestLemmas.{both}
 use Rattle.npp_rows.proofs.ListLaws.{filter_range_push}
 use Rattle.npp_rows.specs.Response.{additions_fit}
 use Rattle.npp_start.proofs.WholeLaws.{whole_num, whole_den}
-use Rattle.npp_accept.proofs.Passes.{both_pass}
 
 -- ---- products with 1
 
@@ -63,13 +63,13 @@ pub additions_wider : (m n : ℕ) (sum : Rational) (xs : List Rational) → m �
 additions_wider m n sum [] le e = refl
 additions_wider m n sum (x ∷ xs) le e =
     let parts = both (fits_add m sum x) (additions_fit m (sum +ℚ x) xs) e in
-    both_pass (fits_add n sum x) (additions_fit n (sum +ℚ x) xs) (sym (fits_add_wider m n sum x le (sym parts.0))) (additions_wider m n (sum +ℚ x) xs le parts.1)
+    and_from (fits_add n sum x) (additions_fit n (sum +ℚ x) xs) (sym (fits_add_wider m n sum x le (sym parts.0))) (additions_wider m n (sum +ℚ x) xs le parts.1)
 
 additions_front : (m : ℕ) (sum : Rational) (xs ys : List Rational) → additions_fit m sum (xs ++ ys) ≡ true → additions_fit m sum xs ≡ true
 additions_front m sum [] ys e = refl
 additions_front m sum (x ∷ xs) ys e =
     let parts = both (fits_add m sum x) (additions_fit m (sum +ℚ x) (xs ++ ys)) e in
-    both_pass (fits_add m sum x) (additions_fit m (sum +ℚ x) xs) parts.0 (additions_front m (sum +ℚ x) xs ys parts.1)
+    and_from (fits_add m sum x) (additions_fit m (sum +ℚ x) xs) parts.0 (additions_front m (sum +ℚ x) xs ys parts.1)
 
 -- the last of them, added to the sum of those before
 additions_last : (m : ℕ) (sum : Rational) (xs : List Rational) (y : Rational) → additions_fit m sum (xs ++ y ∷ []) ≡ true → fits_add m (sum +ℚ sum_by (λ x. x) xs) y ≡ true

@@ -3,6 +3,7 @@ use Rattle.std.specs.Prelude.{◌≡◌, ℕ, zero, suc, ◌+◌, Bool, true, fa
 use Rattle.std.specs.List.{range_with_len, list_any}
 use Rattle.std.proofs.Common.{arith, ap, sym, ◌∙◌, subst, eq-eqb}
 use Rattle.std.proofs.lemmas.List.FromFn.{length-map-range_with_len, get_or-map-range_with_len}
+use Rattle.std.proofs.lemmas.Bool.{and_from}
 use Rattle.npp_frac.specs.Rational.{Rational}
 use Rattle.npp_net.specs.Network.{Network, toll_count, ceiling_of}
 use Rattle.npp_tree.specs.declared.item.Item.{Item}
@@ -14,7 +15,7 @@ use Rattle.npp_check.specs.HeadLines.{header_line, instance_line, same_ceiling, 
 use Rattle.npp_check.specs.Reads.{line, more}
 use Rattle.npp_check.specs.Rules.{broken_if}
 use Rattle.npp_accept.proofs.GivesLemmas.{Gives, gives_done, gives_line, gives_bind, gives_each}
-use Rattle.npp_accept.proofs.Passes.{both_pass, keeps, numbered_so}
+use Rattle.npp_accept.proofs.Passes.{keeps, numbered_so}
 
 -- ---- the form
 
@@ -41,8 +42,8 @@ sizes_say net =
     let tolls = eq-eqb (toll_count net.arcs) (toll_count net.arcs) refl in
     let commodities = eq-eqb (length net.commodities) (length net.commodities) refl in
     keeps ((net.nodes == net.nodes) && (length net.arcs == length net.arcs) && (toll_count net.arcs == toll_count net.arcs) && (length net.commodities == length net.commodities)) Instance (Ok tt)
-    (both_pass ((net.nodes == net.nodes) && (length net.arcs == length net.arcs) && (toll_count net.arcs == toll_count net.arcs)) (length net.commodities == length net.commodities)
-    (both_pass ((net.nodes == net.nodes) && (length net.arcs == length net.arcs)) (toll_count net.arcs == toll_count net.arcs) (both_pass (net.nodes == net.nodes) (length net.arcs == length net.arcs) nodes arcs) tolls) commodities)
+    (and_from ((net.nodes == net.nodes) && (length net.arcs == length net.arcs) && (toll_count net.arcs == toll_count net.arcs)) (length net.commodities == length net.commodities)
+    (and_from ((net.nodes == net.nodes) && (length net.arcs == length net.arcs)) (toll_count net.arcs == toll_count net.arcs) (and_from (net.nodes == net.nodes) (length net.arcs == length net.arcs) nodes arcs) tolls) commodities)
 
 limit_says : (net : Network) (a : ℕ) (u : Option ℕ) → u ≡ ceiling_of net.arcs a → limit_line net a (item.Limit a u) ≡ Ok u
 limit_says net a u e =

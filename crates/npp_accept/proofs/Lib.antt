@@ -6,7 +6,6 @@ pub mod FittingSums
 pub mod ReplyFits
 pub mod PathLemmas
 pub mod CutsLineLemmas
-pub mod ClosingFaults
 pub mod CoverLemmas
 pub mod NodeLemmas
 pub mod TreeLemmas

@@ -2,7 +2,7 @@
 use Rattle.std.specs.Prelude.{◌≡◌, ℕ, ◌<◌, ◌≤◌, pos, Bool, true, false, not, ◌==◌, ◌&&◌, ◌||◌, nat_lt, Option, Some, None, Result, Ok, refl}
 use Rattle.std.specs.List.{list_all, range_with_len}
 use Rattle.std.proofs.Common.{arith, ap, ◌∙◌, eq-eqb}
-use Rattle.std.proofs.lemmas.Bool.Decides.{nat_tests}
+use Rattle.std.proofs.lemmas.Bool.{and_from}
 use Rattle.npp_frac.specs.Rational.{Rational, whole, is_less}
 use Rattle.npp_frac.specs.Order.{≤ℚ_refl, is_less_of_≤ℚ}
 use Rattle.npp_lp.specs.Sums.{checked_sum}
@@ -20,15 +20,8 @@ pub neither : (a b : Bool) → a ≡ false → b ≡ false → (a || b) ≡ fals
 neither true b e f = cc
 neither false b e f = f
 
-pub both_pass : (a b : Bool) → a ≡ true → b ≡ true → (a && b) ≡ true
-both_pass true b e f = f
-both_pass false b e f = cc
-
-pub not_less_test : (m n : ℕ) → n ≤ m → nat_lt m n ≡ false
-not_less_test m n le = grind (arith, nat_tests)
-
 pub same_self : (q : Rational) → same q q ≡ true
-same_self q = both_pass (not (is_less q q)) (not (is_less q q)) (ap not (is_less_of_≤ℚ q q (≤ℚ_refl q))) (ap not (is_less_of_≤ℚ q q (≤ℚ_refl q)))
+same_self q = and_from (not (is_less q q)) (not (is_less q q)) (ap not (is_less_of_≤ℚ q q (≤ℚ_refl q))) (ap not (is_less_of_≤ℚ q q (≤ℚ_refl q)))
 
 -- ---- judgements
 

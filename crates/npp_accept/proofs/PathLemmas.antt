@@ -2,6 +2,7 @@
 use Rattle.std.specs.Prelude.{◌≡◌, ℕ, zero, suc, ◌<◌, ◌≤◌, pos, true, false, not, ◌==◌, List, [], length, Ok, refl}
 use Rattle.std.specs.Int.{bit_at}
 use Rattle.std.proofs.Common.{arith, ap, sym, ◌∙◌, subst, eq-eqb, eqb-true}
+use Rattle.std.proofs.lemmas.Bool.{and_from}
 use Rattle.npp_frac.specs.Rational.{Rational, whole}
 use Rattle.npp_frac.specs.Fits.{IsWidth, limit_of}
 use Rattle.npp_frac.specs.ZeroLaws.{wide_enough}
@@ -20,6 +21,7 @@ use Rattle.npp_rows.specs.PathModel.{PathModel, path_count, useful_path, uses, n
 use Rattle.npp_rows.specs.Response.{reply, path_toll, taken_path, taken_toll, reply_fits}
 use Rattle.npp_rows.proofs.ListLaws.{zip_size, zip_at}
 use Rattle.npp_inverse.proofs.CoverLaws.{caps_size, has_useful_paths}
+use Rattle.npp_inverse.proofs.BestReplies.{taken_inside}
 use Rattle.npp_tree.specs.declared.outcome.PathLine.{PathLine}
 use Rattle.npp_tree.specs.declared.item.Item.{Item}
 use Rattle.npp_tree.specs.declared.item.Item.TheVariants as item
@@ -33,8 +35,8 @@ use Rattle.npp_check.specs.Rules.{and_then, broken_if, same}
 use Rattle.npp_check.proofs.WalkLemmas.{walk_passes}
 use Rattle.npp_accept.proofs.FittingSums.{formed_with_counts}
 use Rattle.npp_accept.proofs.GivesLemmas.{Gives, gives_each}
-use Rattle.npp_accept.proofs.Passes.{both_pass, keeps, same_self, numbered_so, counted_passes}
-use Rattle.npp_accept.proofs.ReplyFits.{tolls_fit, taken_inside, line_at, lines_size, line_is}
+use Rattle.npp_accept.proofs.Passes.{keeps, same_self, numbered_so, counted_passes}
+use Rattle.npp_accept.proofs.ReplyFits.{tolls_fit, line_at, lines_size, line_is}
 
 -- a walk with its cost and what it pays
 path_says : (limit : ℕ) (net : Network) (tolls : List Rational) (k : ℕ) (p : PathLine Rational) → is_walk_of net.arcs (commodity_at net k) p.cost p.arcs ≡ true
@@ -80,7 +82,7 @@ module _ (w v : ℕ) (width : IsWidth v) (le : limit_of w ≤ limit_of v) (net :
 
     is_walk_there : is_walk_of net.arcs (commodity_at net k) (useful_path m k q).cost (useful_path m k q).arcs ≡ true
     is_walk_there =
-        both_pass (is_walk net.arcs (commodity_at net k).origin.0 (commodity_at net k).destination.0 (useful_path m k q).arcs) (walk_cost net.arcs (useful_path m k q).arcs == (useful_path m k q).cost)
+        and_from (is_walk net.arcs (commodity_at net k).origin.0 (commodity_at net k).destination.0 (useful_path m k q).arcs) (walk_cost net.arcs (useful_path m k q).arcs == (useful_path m k q).cost)
         (walk_passes net.arcs (commodity_at net k).origin.0 (commodity_at net k).destination.0 (useful_path m k q).arcs a_path.leads)
         (eq-eqb (walk_cost net.arcs (useful_path m k q).arcs) (useful_path m k q).cost a_path.costs)
 

@@ -3,23 +3,21 @@ use Rattle.std.specs.Prelude.{◌≡◌, ℕ, zero, suc, ◌+◌, ◌<◌, ◌�
 use Rattle.std.specs.List.{list_all, range_with_len}
 use Rattle.std.proofs.Common.{arith, ap, ap₂, sym, ◌∙◌, inl, inr, eq-or-lt_of_le}
 use Rattle.std.proofs.lemmas.List.FromFn.{get_or-map-range_with_len, length-map-range_with_len}
+use Rattle.std.proofs.lemmas.Bool.{and_from}
 use Rattle.npp_frac.specs.Rational.{Rational, zero_ℚ, whole, ◌≤ℚ◌, ◌*ℚ◌}
 use Rattle.npp_frac.specs.Fits.{fits_add, fits_mul}
 use Rattle.npp_frac.specs.FitsLaws.{fits_add_wider, fits_mul_wider}
-use Rattle.npp_frac.specs.Order.{≤ℚ_of_<ℚ, ≤ℚ_of_≡}
 use Rattle.npp_cover.specs.Paths.{PathValue}
 use Rattle.npp_cover.proofs.TestLemmas.{both}
 use Rattle.npp_lp.specs.Programs.{at}
 use Rattle.npp_lp.specs.VerdictLaws.{first_below_none}
 use Rattle.npp_rows.specs.PathModel.{PathModel, paths, path_count, path_cost, path_tolls, useful_path}
 use Rattle.npp_rows.specs.Response.{Reply, reply, path_toll, path_price, taken_path, taken_toll, demand, revenue_below, additions_fit, path_fits, revenue_fits, commodity_fits, reply_stop, is_whole_reply, reply_fits, fitting_reply}
-use Rattle.npp_inverse.specs.Offers.{IsNoWorse, IsFirstBest}
-use Rattle.npp_inverse.proofs.OfferLaws.{first_best}
 use Rattle.npp_tree.specs.declared.outcome.PathLine.{PathLine}
 use Rattle.npp_start.specs.Walks.{IsReply, taken_line, reply_lines}
+use Rattle.npp_start.proofs.StartLaws.{whole_of}
 use Rattle.npp_start.proofs.ReplyShape.{path_is, paid_is}
 use Rattle.npp_accept.proofs.FittingSums.{additions_wider}
-use Rattle.npp_accept.proofs.Passes.{both_pass}
 
 -- ---- the sums of a reply
 
@@ -29,10 +27,6 @@ fits_of limit m T r e = by (reply_fits limit m T) e
     by : (b : Bool) → cond b (Some (reply m T)) None ≡ Some r → b ≡ true
     by true e = refl
     by false e = absurd (let clash : None ≡ Some r = e in cc)
-
-no_stop : (o : Option ℕ) → is_whole_reply o ≡ true → o ≡ None
-no_stop None e = refl
-no_stop (Some k) e = cc
 
 passed : (b : Bool) (k : ℕ) → cond b None (Some k) ≡ None → b ≡ true
 passed true k e = refl
@@ -49,7 +43,7 @@ all_in_range f a (suc n) e q l u =
 
 module _ (limit wide : ℕ) (le : limit ≤ wide) (m : PathModel) (T : List Rational) (fits : reply_fits limit m T ≡ true) where
   commodity_passes : (k : ℕ) → k < length m.covers → commodity_fits limit m T k ≡ true
-  commodity_passes k lt = passed (commodity_fits limit m T k) k (first_below_none (λ j. cond (commodity_fits limit m T j) None (Some j)) (length m.covers) k (no_stop (reply_stop limit m T) fits) lt)
+  commodity_passes k lt = passed (commodity_fits limit m T k) k (first_below_none (λ j. cond (commodity_fits limit m T j) None (Some j)) (length m.covers) k (whole_of (reply_stop limit m T) fits) lt)
 
   path_passes : (k q : ℕ) → k < length m.covers → q < path_count m k → path_fits limit m T k q ≡ true
   path_passes k q lt inside =
@@ -69,7 +63,7 @@ module _ (limit wide : ℕ) (le : limit ≤ wide) (m : PathModel) (T : List Rati
 
   pub path_fits_wider : (k q : ℕ) → k < length m.covers → q < path_count m k → path_fits wide m T k q ≡ true
   path_fits_wider k q lt inside =
-      both_pass (additions_fit wide zero_ℚ (map (at T) (path_tolls m k q))) (fits_add wide (whole (pos (path_cost m k q))) (path_toll m T k q)) (tolls_fit k q lt inside) (price_fits k q lt inside)
+      and_from (additions_fit wide zero_ℚ (map (at T) (path_tolls m k q))) (fits_add wide (whole (pos (path_cost m k q))) (path_toll m T k q)) (tolls_fit k q lt inside) (price_fits k q lt inside)
 
   revenue_passes : (k : ℕ) → k < length m.covers → (fits_mul limit (demand m k) (taken_toll m T k) ≡ true) × (fits_add limit (revenue_below m T k) (demand m k *ℚ taken_toll m T k) ≡ true)
   revenue_passes k lt =
@@ -82,22 +76,6 @@ module _ (limit wide : ℕ) (le : limit ≤ wide) (m : PathModel) (T : List Rati
 
   pub revenue_fits_wider : (k : ℕ) → k < length m.covers → true ≡ fits_add wide (revenue_below m T k) (demand m k *ℚ taken_toll m T k)
   revenue_fits_wider k lt = fits_add_wider limit wide (revenue_below m T k) (demand m k *ℚ taken_toll m T k) le (sym (revenue_passes k lt).1)
-
--- ---- the path that is taken
-
-module _ (m : PathModel) (T : List Rational) (k : ℕ) (some : 0 < path_count m k) where
-  first : IsFirstBest (path_price m T k) (path_toll m T k) (path_count m k) (taken_path m T k)
-  first = first_best (path_price m T k) (path_toll m T k) (path_count m k) some
-
-  pub taken_inside : taken_path m T k < path_count m k
-  taken_inside = first.below
-
-  no_dearer : (q : ℕ) → IsNoWorse (path_price m T k (taken_path m T k)) (path_toll m T k (taken_path m T k)) (path_price m T k q) (path_toll m T k q) → path_price m T k (taken_path m T k) ≤ℚ path_price m T k q
-  no_dearer q (inl lt) = ≤ℚ_of_<ℚ lt
-  no_dearer q (inr same) = ≤ℚ_of_≡ same.0
-
-  pub taken_cheapest : (q : ℕ) → q < path_count m k → path_price m T k (taken_path m T k) ≤ℚ path_price m T k q
-  taken_cheapest q inside = no_dearer q (first.best q inside)
 
 -- ---- the lines of a reply
 

@@ -4,7 +4,6 @@ use Rattle.std.specs.List.{flat_map}
 use Rattle.std.proofs.lemmas.List.{length-append}
 use Rattle.std.proofs.lemmas.List.FromFn.{length-map-range_with_len}
 use Rattle.npp_cover.specs.Replaces.{CoverValue, sum_below}
-use Rattle.npp_rows.specs.declared.names.RowName.TheVariants.{Follow}
 use Rattle.npp_rows.specs.declared.names.ColumnName.TheVariants.{Toll}
 use Rattle.npp_rows.specs.Inverse.{inverse}
 use Rattle.npp_rows.specs.Limits.{IsWithinLimits}
@@ -15,9 +14,8 @@ use Rattle.npp_rows.specs.Relax.{relaxation, relaxation_rows, relaxation_columns
 use Rattle.npp_rows.proofs.FamilyLaws.{paid_within}
 use Rattle.npp_rows.proofs.ProgramLaws.{few_columns}
 use Rattle.npp_rows.proofs.RowPlaces.{caps_size}
-use Rattle.npp_rows.proofs.SizeLaws.{rows_size}
-use Rattle.npp_rows.proofs.StartLaws.{sum_by_places, sum_below_same}
-use Rattle.npp_rows.proofs.TermLaws.{flat_size}
+use Rattle.npp_rows.proofs.SizeLaws.{rows_size, follows_size}
+use Rattle.npp_rows.proofs.StartLaws.{sum_by_places}
 
 module _ (m : PathModel) (limits : IsWithinLimits m) where
   paths_within : sum_below (path_count m) (length m.covers) ≤ 16777216
@@ -27,13 +25,8 @@ module _ (m : PathModel) (limits : IsWithinLimits m) where
   relaxation_rows_few parts allowed =
       omega (arith, rows_size m parts 0, limits.tolls, paths_within, paid_within m parts limits allowed (length m.covers) (omega arith), limits.commodities)
 
-  follows_size : length (flat_map (follow_rows m) (commodities m)) ≡ sum_below (path_count m) (length m.covers)
-  follows_size =
-      flat_size (follow_rows m) (length m.covers)
-      ∙ sum_below_same (λ k. length (follow_rows m k)) (path_count m) (length m.covers) (λ k u. length-map-range_with_len (Follow k) 0 (path_count m k))
-
   pub choice_rows_few : length (cap_rows m ++ flat_map (follow_rows m) (commodities m)) ≤ 67108864
-  choice_rows_few = omega (arith, length-append (cap_rows m) (flat_map (follow_rows m) (commodities m)), caps_size m, follows_size, limits.tolls, paths_within)
+  choice_rows_few = omega (arith, length-append (cap_rows m) (flat_map (follow_rows m) (commodities m)), caps_size m, follows_size m, limits.tolls, paths_within)
 
   pub few_rows : (parts : List (List ℕ)) → IsAllowed m parts → length (node_program m [] parts).rows ≤ 67108864
   few_rows parts allowed = by (is_full parts)

@@ -97,6 +97,14 @@ no_free_fault arcs k free walk is =
     let two : nat_eq (walk_cost arcs walk) free ≡ true = test_of_equal (walk_cost arcs walk) free is.costs in
     rw (one, two) refl
 
+-- closed labels and a toll-free walk of least cost leave no fault
+pub no_closing_fault : (net : Network) (limits : IsNetwork net) (k : Commodity) (span : Span) (onward : ℕ → Option ℕ) (are_onward : AreOnward net k onward)
+    (labels : List Label) (closed : AreClosed net.arcs k span labels) (walk : List ArcId) → IsFreeWalk net.arcs k span.free walk → closing_fault net.arcs onward k span labels walk ≡ None
+no_closing_fault net limits k span onward are_onward labels closed walk is =
+    ap (λ (f : Option CoverFault). option_or f (option_or (origin_fault span labels) (open_fault net.arcs onward span.free labels))) (no_free_fault net.arcs k span.free walk is)
+    ∙ (ap (λ (f : Option CoverFault). option_or f (open_fault net.arcs onward span.free labels)) (no_origin_fault span labels closed.start)
+    ∙ none_open net limits k span onward are_onward labels closed 0 [] labels refl)
+
 module _ (net : Network) (limits : IsNetwork net) (k : Commodity) (origin : k.origin.0 < net.nodes) (span : Span) (onward : ℕ → Option ℕ) (are_onward : AreOnward net k onward)
     (c : CoverValue) (is : IsCoverOf net.arcs k span c) (starts : StartsFirst c.labels) (d : CoverDraft) (drafts : IsDraftOf c d) where
   gives : GivesLabels net limits k span onward are_onward c.labels is.closed starts c.labels
@@ -117,10 +125,8 @@ module _ (net : Network) (limits : IsNetwork net) (k : Commodity) (origin : k.or
 
   closing_none : closing_fault net.arcs onward k span c.labels d.free.arcs.items ≡ None
   closing_none =
-      ap (λ (f : Option CoverFault). option_or f (option_or (origin_fault span c.labels) (open_fault net.arcs onward span.free c.labels)))
-      (ap (λ (walk : List ArcId). free_fault net.arcs k span.free walk) walk_is ∙ no_free_fault net.arcs k span.free is.made.0 is.made.1)
-      ∙ (ap (λ (f : Option CoverFault). option_or f (open_fault net.arcs onward span.free c.labels)) (no_origin_fault span c.labels is.closed.start)
-      ∙ none_open net limits k span onward are_onward c.labels is.closed 0 [] c.labels refl)
+      ap (λ (walk : List ArcId). closing_fault net.arcs onward k span c.labels walk) walk_is
+      ∙ no_closing_fault net limits k span onward are_onward c.labels is.closed is.made.0 is.made.1
 
   few : label_count d ≤ 65536
   few = omega (

@@ -93,7 +93,8 @@ module _ (net : Network) (limits : IsNetwork net) where
   heads_within u v [] path = tt
   heads_within u v (a ∷ rest) path = ((limits.each_arc a.0 no_arc path.0).head, heads_within (arc_at net.arcs a).head.0 v rest path.2)
 
-  few_arcs : (u v : ℕ) (walk : List ArcId) → u < net.nodes → IsWalk net.arcs u v walk → RepeatsNoNode net.arcs u walk → length walk < net.nodes
+  -- a walk that comes to no node twice has fewer arcs than there are nodes
+  pub few_arcs : (u v : ℕ) (walk : List ArcId) → u < net.nodes → IsWalk net.arcs u v walk → RepeatsNoNode net.arcs u walk → length walk < net.nodes
   few_arcs u v walk lt path simple =
       let all = length-le_from_distinct_below (u ∷ heads_of net.arcs walk) net.nodes (distinct net.arcs u walk simple)
       (one_of net.nodes (u ∷ heads_of net.arcs walk) (lt, heads_within u v walk path)) in

@@ -4,4 +4,3 @@ pub mod WalkLaws
 pub mod WholeLaws
 pub mod ZeroReply
 pub mod StartLaws
-pub mod UpperLaws

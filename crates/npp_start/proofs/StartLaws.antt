@@ -1,7 +1,7 @@
 -- The tolls of a start are allowed.
 use Rattle.std.proofs.Common.{◌≡◌, ℕ, zero, suc, ◌+◌, ◌<◌, ◌≤◌, min, List, [], ◌∷◌, ◌++◌, length, map, pos, replicate, refl, sym, ap, ◌∙◌, subst, arith}
-use Rattle.std.specs.Prelude.{slice_index, Bool, true, false, Option, Some, None, Result, Ok, Err, IfOk, if◌then◌else◌}
-use Rattle.std.proofs.lemmas.List.{get_or-replicate, length-map, length-replicate}
+use Rattle.std.specs.Prelude.{slice_index, Bool, true, false, Option, Some, None, if◌then◌else◌}
+use Rattle.std.proofs.lemmas.List.{get_or-replicate, length-replicate}
 use Rattle.std.proofs.lemmas.List.FromFn.{get_or-map-range_with_len}
 use Rattle.std.proofs.lemmas.Int.{ints}
 use Rattle.npp_frac.specs.Rational.{Rational, zero_ℚ, whole, ◌≤ℚ◌}
@@ -22,7 +22,6 @@ use Rattle.npp_inverse.specs.Best.{AreWithinCaps}
 use Rattle.npp_inverse.specs.Offers.{HasUsefulPaths}
 use Rattle.npp_inverse.specs.Work.{Ending, AtPoint, WithoutPoint, AtMark, program_work, with_reply, inverse_work}
 use Rattle.npp_inverse.proofs.CoverLaws.{caps_size}
-use Rattle.npp_start.specs.declared.start.Start.{Start}
 use Rattle.npp_start.specs.Allowed.{AreAllowed}
 use Rattle.npp_start.specs.Start.{zero_choice, no_tolls, tolls_found, start_tolls}
 
@@ -49,7 +48,8 @@ zero_is_choice m useful = record {
 }
 
 -- a found point is one to whose tolls the reply fits
-whole_of : (o : Option ℕ) → is_whole_reply o ≡ true → o ≡ None
+-- a reply that is whole stops at no commodity
+pub whole_of : (o : Option ℕ) → is_whole_reply o ≡ true → o ≡ None
 whole_of None e = refl
 whole_of (Some k) e = cc
 
@@ -98,11 +98,3 @@ capped_allowed net covers T closed size capped = record {
       let below = cap_below net covers a u inside is in
       ≤ℚ_trans (capped a (omega (arith, l, size))).1 (whole_mono (omega (arith, ints, below)));
 }
-
--- whatever the code's numbers
-pub start_allowed : {N E : Type 0} (value : N → Rational) (net : Network) (covers : List CoverValue) (m : PathModel) (r : Result (Start N) E) → AreClosedCovers net covers
-    → m ≡ path_model net covers → IfOk r (λ s. length s.tolls ≡ length m.caps) → IfOk r (λ s. AreWithinCaps m (map value s.tolls)) → IfOk r (λ s. AreAllowed net (map value s.tolls))
-start_allowed value net covers m (Err e) closed same size capped = tt
-start_allowed value net covers m (Ok s) closed same size capped =
-    let OfCaps : PathModel → Type 0 = λ n. AreWithinCaps n (map value s.tolls) in
-    capped_allowed net covers (map value s.tolls) closed (length-map s.tolls value ∙ size ∙ ap (λ (n : PathModel). length n.caps) same) (subst OfCaps same capped)

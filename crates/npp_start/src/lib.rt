@@ -2,9 +2,7 @@
 #![tactic(auto)]
 
 mod start;
-mod upper;
 mod walks;
 
-pub use start::{Start, find_start, find_start_for};
-pub use upper::upper_value;
+pub use start::{Start, find_start_for};
 pub use walks::walks_of_reply;

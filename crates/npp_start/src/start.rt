@@ -1,22 +1,17 @@
 //! The tolls with which a search starts.
 
-ghost use Rattle.std.specs.Prelude.{◌≡◌, ◌≤◌, None, map, replicate, length, IfOk};
+ghost use Rattle.std.specs.Prelude.{◌≡◌, None, map, replicate, length, IfOk};
 ghost use Rattle.npp_frac.specs.Rational.{zero_ℚ};
 ghost use Rattle.npp_frac.specs.Fits.{limit_of};
-ghost use Rattle.npp_rows.specs.Caps.{path_model};
-ghost use Rattle.npp_rows.specs.Limits.{path_total};
-ghost use Rattle.npp_rows.specs.Lowering.{AreClosedCovers};
 ghost use Rattle.npp_rows.specs.Meaning.{reply_value};
 ghost use Rattle.npp_rows.specs.Response.{reply, reply_stop};
 ghost use Rattle.npp_inverse.specs.Offers.{HasUsefulPaths};
 ghost use Rattle.npp_inverse.specs.Best.{AreWithinCaps};
-ghost use Rattle.npp_start.specs.Allowed.{AreAllowed};
 ghost use Rattle.npp_start.specs.Start.{no_tolls, start_tolls};
 
-use npp_cover::Cover;
 use npp_frac::Exact;
 use npp_inverse::{Best, RespondRefusal, best_tolls_for, reply_to};
-use npp_net::{Instance, Memory, Tolls};
+use npp_net::{Memory, Tolls};
 use npp_rows::{PathTable, Response};
 use std::alloc::Global;
 
@@ -89,24 +84,4 @@ fn without_tolls<N: Exact>(alloc: Global, table: &PathTable) -> Result<Start<N>,
         Err(RespondRefusal::Overflow { .. }) => unreachable!(),
         Err(RespondRefusal::Memory) => Err(Memory),
     }
-}
-
-/// The tolls with which a search starts, and the reply to them: see [`find_start_for`].
-///
-/// The covers are those of the instance, one for each commodity in order.
-pub fn find_start<N: Exact>(
-    alloc: Global,
-    instance: &Instance,
-    covers: &[Cover],
-) -> Result<Start<N>, Memory>
-    requires covers { AreClosedCovers instance.now covers.now }
-    requires few { path_total covers.now ≤ 16777216 }
-    ensures tolls { IfOk result (λ s. map N.rational s.tolls ≡ start_tolls (limit_of N.WIDTH) (path_model instance.now covers.now)) }
-    ensures allowed { IfOk result (λ s. AreAllowed instance.now (map N.rational s.tolls)) }
-    ensures capped { IfOk result (λ s. AreWithinCaps (path_model instance.now covers.now) (map N.rational s.tolls)) }
-    ensures fits { IfOk result (λ s. reply_stop (limit_of N.WIDTH) (path_model instance.now covers.now) (map N.rational s.tolls) ≡ None) }
-    ensures reply { IfOk result (λ s. reply_value N.rational s.response ≡ reply (path_model instance.now covers.now) (map N.rational s.tolls)) }
-{
-    let table = PathTable::new(alloc, instance, covers)?;
-    find_start_for(alloc, &table)
 }

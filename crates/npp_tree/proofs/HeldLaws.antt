@@ -85,6 +85,12 @@ module _ {N : Type 0} (value : N → Rational) where
     pub updates : Updates old new key (Some (made b))
     pub more : slab_len new ≡ slab_len old + 1
 
+  -- a node that is such a leaf makes it
+  pub makes_node : (old new : Slab (GrowNode N)) (key : ℕ) (b : Bound) (node : GrowNode N) → node ≡ made b → get old key ≡ None → Updates old new key (Some node)
+      → slab_len new ≡ slab_len old + 1 → Makes old new key b
+  makes_node old new key b node is vacant updates more =
+      record { vacant = vacant; updates = subst (λ (n : GrowNode N). Updates old new key (Some n)) is updates; more = more }
+
   -- what stood there still does
   still : (old new : Slab (GrowNode N)) (key : ℕ) (b : Bound) → Makes old new key b → (k : ℕ) (g : GrowNode N) → get old k ≡ Some g → get new k ≡ Some g
   still old new key b makes k g was = makes.updates.others k (λ e. let none = makes.vacant in cc) ∙ was
