@@ -74,6 +74,6 @@ measure() { # STAGE NETWORK REPEAT
 
 for network in tenth apart chains; do
   measure program "$network" 20
-  measure round "$network" 200
-  measure rounds "$network" 200
+  measure round "$network" 10000
+  measure rounds "$network" 500
 done
