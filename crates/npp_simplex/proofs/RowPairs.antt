@@ -1,5 +1,5 @@
 -- Rows compared in pairs: one that comes before each earlier row, and after none of the later ones, is the one that remains.
-use Rattle.std.proofs.Common.{◌≡◌, ◌≢◌, ℕ, ◌+◌, ◌-◌, ◌<◌, ◌≤◌, List, [], ◌∷◌, ◌++◌, length, get_or, take, slice_index, Bool, true, false, cond, not, ◌&&◌, ◌||◌, Option, None, Ok, ◌⊎◌, inl, inr, arith, ap, ap₂, sym, ◌∙◌, refl, subst, eq-or-lt_of_le}
+use Rattle.std.proofs.Common.{◌≡◌, ◌≢◌, ℕ, zero, suc, ◌+◌, ◌-◌, ◌<◌, ◌≤◌, List, [], ◌∷◌, ◌++◌, length, get_or, take, slice_index, Bool, true, false, cond, not, ◌&&◌, ◌||◌, Option, None, Ok, ◌⊎◌, inl, inr, arith, ap, ap₂, sym, ◌∙◌, refl, subst, eq-or-lt_of_le}
 use Rattle.std.specs.List.{range_with_len, filter, list_all, All}
 use Rattle.std.proofs.lemmas.List.{length-append, append_assoc, take_more, get_or_default}
 use Rattle.std.proofs.Math.Seq.{take-length}
@@ -80,6 +80,18 @@ module _ (f g : ℕ → Rational) (a k e : ℕ) (l : k < e) (same : comes_before
 
   pub column_level : is_less (f k) (g k) ≡ false → is_less (g k) (f k) ≡ false → comes_before f g (range_with_len a (e - a)) ≡ comes_before f g (range_with_len (k + 1) (e - (k + 1)))
   column_level above below = at_key ∙ key_level f g k (range_with_len (k + 1) (e - (k + 1))) above below
+
+module _ (f g : ℕ → Rational) (a e : ℕ) where
+  -- the n keys from k on, at which the rows are level, are passed over
+  pub columns_level : (n k : ℕ) → k + n ≤ e → ((j : ℕ) → k ≤ j → j < k + n → (is_less (f j) (g j) ≡ false) × (is_less (g j) (f j) ≡ false))
+      → comes_before f g (range_with_len a (e - a)) ≡ comes_before f g (range_with_len k (e - k))
+      → comes_before f g (range_with_len a (e - a)) ≡ comes_before f g (range_with_len (k + n) (e - (k + n)))
+  columns_level zero k within level same = same ∙ ap (λ b. comes_before f g (range_with_len b (e - b))) (let equal : k ≡ k + 0 = omega arith in equal)
+  columns_level (suc n) k within level same =
+      let here = level k (omega arith) (omega arith) in
+      let more = column_level f g a k e (omega arith) same here.0 here.1 in
+      columns_level n (k + 1) (omega arith) (λ j from below. level j (omega arith) (omega arith)) more
+      ∙ ap (λ b. comes_before f g (range_with_len b (e - b))) (let equal : k + 1 + n ≡ k + suc n = omega arith in equal)
 
 pub before_not_after : (f g : ℕ → Rational) (keys : List ℕ) → comes_before f g keys ≡ true → comes_before g f keys ≡ false
 before_not_after f g [] e = cc

@@ -1,6 +1,7 @@
 -- Quotients of words, compared by products.
-use Rattle.std.proofs.Common.{◌≡◌, ◌≢◌, ℕ, ◌+◌, ◌*◌, ◌<◌, ◌≤◌, List, ℤ, pos, negsuc, ◌*ℤ◌, ◌<ℤ◌, ◌≤ℤ◌, Bool, true, false, arith, ap, ap₂, sym, ◌∙◌, refl}
+use Rattle.std.proofs.Common.{◌≡◌, ◌≢◌, ℕ, ◌+◌, ◌-◌, ◌*◌, ◌<◌, ◌≤◌, List, ℤ, pos, negsuc, ◌*ℤ◌, ◌<ℤ◌, ◌≤ℤ◌, Bool, true, false, arith, ap, ap₂, sym, ◌∙◌, refl}
 use Rattle.std.specs.Int.Signed.{lt_z}
+use Rattle.std.specs.List.{range_with_len}
 use Rattle.std.proofs.lemmas.Int.{ints}
 use borrow.Author.Differences.{up, down}
 use Rattle.npp_frac.specs.Rational.{Rational, Is-lt, Is-le, Is-ratio, is_less, ratio, whole, times_pos, zero_ℚ, ◌/ℚ◌}
@@ -11,7 +12,7 @@ use Rattle.npp_lp.specs.Programs.{at}
 use Rattle.npp_simplex.specs.CommonForm.{number_in}
 use Rattle.npp_simplex.specs.RowOrder.{comes_before, divided, AreWordsOf}
 use Rattle.npp_simplex.proofs.CommonForms.{over_at, ratio_quotient, common_quotient, common_quotient_fits}
-use Rattle.npp_simplex.proofs.RowPairs.{before_same}
+use Rattle.npp_simplex.proofs.RowPairs.{before_same, columns_level}
 
 parts_below : (u v : ℤ) → u <ℤ v → up u + down v < up v + down u
 parts_below u v h = omega (arith, ints, h)
@@ -65,6 +66,18 @@ zeros_not_lower x y a b e f =
     let first : whole x /ℚ whole a ≡ zero_ℚ = rw e (zero-/ℚ (whole a)) in
     let second : whole y /ℚ whole b ≡ zero_ℚ = rw f (zero-/ℚ (whole b)) in
     sym (ap₂ is_less first second ∙ is_less_of_≤ℚ zero_ℚ zero_ℚ (≤ℚ_refl zero_ℚ))
+
+-- columns in which both rows have 0 are passed over
+pub zeros_passed : (xs ys : List ℤ) (a b : ℤ) (from k n e : ℕ) → k ≤ n → n ≤ e
+    → ((j : ℕ) → k ≤ j → j < n → number_in xs j ≡ pos 0) → ((j : ℕ) → k ≤ j → j < n → number_in ys j ≡ pos 0)
+    → comes_before (divided xs a) (divided ys b) (range_with_len from (e - from)) ≡ comes_before (divided xs a) (divided ys b) (range_with_len k (e - k))
+    → comes_before (divided xs a) (divided ys b) (range_with_len from (e - from)) ≡ comes_before (divided xs a) (divided ys b) (range_with_len n (e - n))
+zeros_passed xs ys a b from k n e order within first second same =
+    let last : k + (n - k) ≡ n = omega (arith, order) in
+    columns_level (divided xs a) (divided ys b) from e (n - k) k (omega (arith, order, within)) (λ j low high.
+    let before : j < n = omega (arith, order, high) in
+    (sym (zeros_not_lower (number_in xs j) (number_in ys j) a b (first j low before) (second j low before)), sym (zeros_not_lower (number_in ys j) (number_in xs j) b a (second j low before) (first j low before)))) same
+    ∙ ap (λ m. comes_before (divided xs a) (divided ys b) (range_with_len m (e - m))) last
 
 -- ---- a row of words, divided by its number in a column
 

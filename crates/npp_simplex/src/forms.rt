@@ -6,7 +6,9 @@ ghost use Rattle.npp_frac.specs.Fits.{limit_of};
 ghost use Rattle.npp_simplex.specs.CommonForm.{number_in, over, word_limit as word_limit_of, AreWithin, IsCommonForm, turned};
 ghost use Rattle.npp_simplex.specs.Steps.{nonzero_columns};
 
-use crate::words::{common_factor, divide_each, factor_of, greatest_size, negate, scale, subtract};
+use crate::words::{
+    common_factor, divide_each, divisor_of, greatest_size, negate, scale, subtract,
+};
 use npp_frac::Exact;
 
 /// The size below which the whole numbers of a row stay.
@@ -262,12 +264,12 @@ pub fn take_factor_out(numbers: &mut [i64], denominator: u64) -> u64
     ensures at_most { result ≤ denominator }
     ensures sizes { (j : ℕ) → nat_abs (number_in numbers.new j) ≤ nat_abs (number_in numbers.old j) }
 {
-    let factor = factor_of(numbers, denominator);
-    if factor == 1 {
+    let divisor = divisor_of(numbers, denominator);
+    if divisor.value == 1 {
         return denominator;
     }
-    divide_each(numbers, factor);
-    denominator / factor
+    divide_each(numbers, divisor);
+    denominator / divisor.value
 }
 
 /// The same, with the greatest size of the numbers.

@@ -28,6 +28,7 @@ mod solver;
 mod stage;
 mod tableau;
 mod vectors;
+mod word_divisor;
 mod words;
 mod workspace;
 

@@ -15,7 +15,7 @@ pub struct LongDivisor {
     pub value: u128,
     /// How many zeros it ends with in binary.
     zeros: u32,
-    /// The number that gives 1 where the rest of it is multiplied by it, without what goes beyond 128 bits.
+    /// The number by which the odd part gives 1, without what goes beyond 128 bits.
     inverse: u128,
 }
 

@@ -5,6 +5,7 @@ ghost use Rattle.std.specs.List.{range_with_len};
 ghost use Rattle.npp_frac.specs.Rational.{whole, is_less, ◌/ℚ◌};
 ghost use Rattle.npp_frac.specs.Fits.{limit_of, fits_div};
 ghost use Rattle.npp_lp.specs.Programs.{at};
+ghost use Rattle.npp_simplex.specs.CommonForm.{number_in};
 ghost use Rattle.npp_simplex.specs.Tableau.{cell, height, width};
 ghost use Rattle.npp_simplex.specs.Ratio.{compared as compared_of, keys};
 ghost use Rattle.npp_simplex.specs.RowOrder.{comes_before as comes_before_of, divided};
@@ -36,7 +37,40 @@ pub fn is_lower(number: i64, divisor: i64, other: i64, by: i64) -> bool
     product(number, by) < product(other, divisor)
 }
 
-/// Whether the words of a row over a divisor come before those of another row, from a column on to an end.
+/// Whether the four words of a row from a column on are 0. They are tested at once.
+#[inline(always)]
+fn four_are_zero(words: &[i64], from: usize) -> bool
+    requires { from + 4 ≤ length words.now }
+    ensures { result ≡ true → (j : ℕ) → from ≤ j → j < from + 4 → number_in words.now j ≡ pos 0 }
+{
+    (words[from] == 0) & (words[from + 1] == 0) & (words[from + 2] == 0) & (words[from + 3] == 0)
+}
+
+/// The first of some columns at which one of two rows of words is not 0, or their end.
+#[inline(always)]
+fn next_nonzero_of(words: &[i64], others: &[i64], from: usize, end: usize) -> usize
+    requires order { from ≤ end }
+    requires words { end ≤ length words.now }
+    requires others { end ≤ length others.now }
+    ensures from { from ≤ result }
+    ensures end { result ≤ end }
+    ensures words { (j : ℕ) → from ≤ j → j < result → number_in words.now j ≡ pos 0 }
+    ensures others { (j : ℕ) → from ≤ j → j < result → number_in others.now j ≡ pos 0 }
+{
+    let mut next = from;
+    while 4 <= end - next && four_are_zero(words, next) && four_are_zero(others, next) {
+        next += 4;
+    }
+    for j in next..end {
+        if words[j] != 0 || others[j] != 0 {
+            return j;
+        }
+    }
+    end
+}
+
+/// Whether the words of a row over a divisor come before those of another row, from a column on to an end. Columns in which both
+/// are 0 are passed over.
 pub fn words_before(
     words: &[i64],
     divisor: i64,
@@ -52,13 +86,19 @@ pub fn words_before(
     requires others { end ≤ length others.now }
     ensures { result ≡ comes_before_of (divided words.now divisor) (divided others.now by) (range_with_len from (end - from)) }
 {
-    for k in from..end {
+    let mut next = from;
+    while next < end {
+        let k = next_nonzero_of(words, others, next, end);
+        if k == end {
+            return false;
+        }
         if is_lower(words[k], divisor, others[k], by) {
             return true;
         }
         if is_lower(others[k], by, words[k], divisor) {
             return false;
         }
+        next = k + 1;
     }
     false
 }

@@ -5,6 +5,7 @@ ghost use Rattle.npp_frac.specs.Rational.{whole};
 ghost use Rattle.npp_simplex.specs.CommonForm.{number_in, AreWithin};
 ghost use Rattle.npp_simplex.specs.Steps.{nonzero_columns};
 
+use crate::word_divisor::WordDivisor;
 use npp_frac::Memory;
 
 /// A common factor of two numbers. It is the greatest, but nothing rests on that.
@@ -28,21 +29,21 @@ pub fn common_factor(first: u64, second: u64) -> u64
     x
 }
 
-/// A common factor of a denominator and the numbers of a row.
-pub fn factor_of(numbers: &[i64], denominator: u64) -> u64
+/// A common divisor of a denominator and the numbers of a row.
+pub fn divisor_of(numbers: &[i64], denominator: u64) -> WordDivisor
     requires { 0 < denominator }
-    ensures above { 0 < result }
-    ensures of_denominator { denominator % result ≡ 0 }
-    ensures of_numbers { (j : ℕ) → nat_abs (number_in numbers.now j) % result ≡ 0 }
+    ensures above { 0 < result.value }
+    ensures of_denominator { denominator % result.value ≡ 0 }
+    ensures of_numbers { (j : ℕ) → nat_abs (number_in numbers.now j) % result.value ≡ 0 }
 {
-    let mut factor = denominator;
+    let mut divisor = WordDivisor::of(denominator);
     for j in 0..numbers.len() {
-        if factor == 1 {
-            return 1;
+        if divisor.value == 1 {
+            return divisor;
         }
-        factor = common_factor(factor, numbers[j].unsigned_abs());
+        divisor = divisor.shared_with(numbers[j].unsigned_abs());
     }
-    factor
+    divisor
 }
 
 /// The greatest size of some numbers.
@@ -73,26 +74,25 @@ pub fn scale(numbers: &mut [i64], factor: u64)
     }
 }
 
-/// The quotient by a positive number, rounded toward zero. It divides sizes, since to divide a number below 0 takes longer.
+/// The quotient by a divisor, rounded toward zero.
 #[inline(always)]
-fn truncated(number: i64, by: u64) -> i64
-    requires positive { 0 < by }
+fn truncated(number: i64, by: WordDivisor) -> i64
+    requires positive { 0 < by.value }
     requires size { nat_abs number < 2 ^ 63 }
-    ensures { result ≡ int_div number (pos by) }
+    ensures { result ≡ int_div number (pos by.value) }
 {
-    let quotient = (number.unsigned_abs() / by) as i64;
+    let quotient = by.quotient(number.unsigned_abs()) as i64;
     if number < 0 { -quotient } else { quotient }
 }
 
 /// Divides each number.
-pub fn divide_each(numbers: &mut [i64], factor: u64)
-    requires positive { 0 < factor }
-    requires below { factor < 2 ^ 63 }
+pub fn divide_each(numbers: &mut [i64], divisor: WordDivisor)
+    requires positive { 0 < divisor.value }
     requires sizes { AreWithin (2 ^ 63 - 1) numbers.old }
-    ensures { (j : ℕ) → number_in numbers.new j ≡ int_div (number_in numbers.old j) (pos factor) }
+    ensures { (j : ℕ) → number_in numbers.new j ≡ int_div (number_in numbers.old j) (pos divisor.value) }
 {
     for j in 0..numbers.len() {
-        numbers[j] = truncated(numbers[j], factor);
+        numbers[j] = truncated(numbers[j], divisor);
     }
 }
 
