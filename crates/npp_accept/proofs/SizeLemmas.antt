@@ -11,8 +11,8 @@ use Rattle.npp_rows.specs.NodeProgram.{node_program}
 use Rattle.npp_rows.specs.Parts.{IsAllowed, is_full, first_choice}
 use Rattle.npp_rows.specs.PathModel.{PathModel, no_cover, path_count, commodities}
 use Rattle.npp_rows.specs.Relax.{relaxation, relaxation_rows, relaxation_columns, cap_rows, follow_rows}
-use Rattle.npp_rows.proofs.FamilyLaws.{paid_within}
-use Rattle.npp_rows.proofs.ProgramLaws.{few_columns}
+use Rattle.npp_rows.proofs.FamilyLaws.{shares_within, paid_within}
+use Rattle.npp_rows.proofs.ProgramLaws.{columns_size}
 use Rattle.npp_rows.proofs.RowPlaces.{caps_size}
 use Rattle.npp_rows.proofs.SizeLaws.{rows_size, follows_size}
 use Rattle.npp_rows.proofs.StartLaws.{sum_by_places}
@@ -39,4 +39,6 @@ module _ (m : PathModel) (limits : IsWithinLimits m) where
   choice_columns_few choice = omega (arith, length-map-range_with_len Toll 0 (length m.caps), limits.tolls)
 
   pub relaxation_columns_few : (parts : List (List ℕ)) → IsAllowed m parts → length (relaxation_columns m parts) ≤ 67108864
-  relaxation_columns_few parts allowed = omega (arith, few_columns m parts limits allowed)
+  relaxation_columns_few parts allowed =
+      let all : length m.covers ≤ length m.covers = omega arith in
+      omega (arith, columns_size m parts, limits.tolls, shares_within m parts limits allowed (length m.covers) all, paid_within m parts limits allowed (length m.covers) all)

@@ -9,11 +9,11 @@ ghost use Rattle.npp_inverse.specs.Offers.{HasUsefulPaths};
 use crate::text::text_of;
 use npp_cover::Cover;
 use npp_frac::{Exact, print_fraction};
-use npp_leaf::{LeafWork, evidence_in};
+use npp_leaf::{LeafWork, Workspace, evidence_in};
 use npp_lp::{Program, check_dual};
 use npp_net::{Instance, Listed, Memory};
 use npp_rows::{Allowed, CutRow, Derivation, Multiplier, PathTable, RelaxationIndex, RowName};
-use npp_simplex::{Answer, Workspace, solve_in};
+use npp_simplex::{Answer, solve_in};
 use npp_tree::{Bound, Evidence};
 use std::alloc::Global;
 
@@ -180,15 +180,14 @@ fn program_text<N: Exact>(
     stage: Stage,
 ) -> Option<String> {
     let cuts = Vec::<CutRow<N>>::new(alloc);
-    let lists = workspace.program_lists(alloc);
-    let program = index.program_in(lists, alloc, &cuts).ok()?;
+    let program = index.program(alloc, &mut workspace.programs, &cuts).ok()?;
     let text = match stage {
         Stage::Text => text_of(alloc, &program),
         Stage::Run => run_text(alloc, workspace, &program),
         Stage::Check => check_text(alloc, workspace, &program),
         _ => size_text(alloc, &program),
     };
-    workspace.keep_program(program);
+    workspace.programs.keep(program);
     text
 }
 
@@ -208,7 +207,7 @@ fn run_text<N: Exact>(
     workspace: &mut Workspace<N>,
     program: &Program<N>,
 ) -> Option<String> {
-    let answer = solve_in(alloc, workspace, program, CAP).ok()?;
+    let answer = solve_in(alloc, &mut workspace.runs, program, CAP).ok()?;
     answer_text(alloc, &answer)
 }
 
@@ -232,7 +231,7 @@ fn check_text<N: Exact>(
     workspace: &mut Workspace<N>,
     program: &Program<N>,
 ) -> Option<String> {
-    let answer = solve_in(alloc, workspace, program, CAP).ok()?;
+    let answer = solve_in(alloc, &mut workspace.runs, program, CAP).ok()?;
     let Answer::Optimal { y, .. } = answer else {
         return format!(in alloc; "no optimum").ok();
     };

@@ -1,21 +1,16 @@
 -- The reply to the best tolls of a choice earns at least their value.
-use Rattle.std.proofs.Common.{◌≡◌, inl, inr, ℕ, ◌+◌, ◌<◌, Bool, true, false, cond, List, length, map, Some, pos, sym, ap, ap₂, ◌∙◌, subst, arith}
-use Rattle.std.specs.Prelude.{◌-ℤ◌}
-use Rattle.std.specs.List.{flat_map}
+use Rattle.std.proofs.Common.{◌≡◌, inl, inr, ℕ, ◌<◌, cond, List, length, map, pos, sym, ap, ◌∙◌, arith}
 use Rattle.std.proofs.lemmas.Int.{ints}
-use Rattle.npp_frac.specs.Rational.{Rational, zero_ℚ, whole, ◌+ℚ◌, ◌-ℚ◌, ◌*ℚ◌, ◌≤ℚ◌, Is, Is-self, Is-le, le-Is, Is-equal, Is-whole, Is-sub, Is-add}
-use Rattle.npp_frac.specs.Ring.{one-*ℚ, zero-*ℚ, -ℚ-*ℚ}
+use Rattle.npp_frac.specs.Rational.{Rational, zero_ℚ, whole, ◌*ℚ◌, ◌≤ℚ◌}
 use Rattle.npp_frac.specs.Order.{not-≤ℚ_of_<ℚ, *ℚ_mono, whole_mono}
-use Rattle.npp_frac.specs.Sums.{sum_by, sum_by-map, sum_by_same, sum_by--ℚ, sum_by-*ℚ, sum_to_mono}
-use Rattle.npp_lp.specs.Programs.{at, product_sum, terms_at, goal_at, IsPoint}
-use Rattle.npp_rows.specs.declared.names.RowName.TheVariants.{Cap, Follow}
+use Rattle.npp_frac.specs.Sums.{sum_by, sum_by-map, sum_by_same, sum_by-*ℚ, sum_to_mono}
+use Rattle.npp_lp.specs.Programs.{at, product_sum, goal_at, IsPoint}
 use Rattle.npp_rows.specs.declared.names.ColumnName.TheVariants.{Toll}
-use Rattle.npp_rows.specs.PathModel.{PathModel, tolls, commodities, paths, path_count, path_cost, uses, demand_at}
+use Rattle.npp_rows.specs.PathModel.{PathModel, tolls, commodities, path_count, uses, demand_at}
 use Rattle.npp_rows.specs.Parts.{chosen}
-use Rattle.npp_rows.specs.Named.{one_if, numbered, terms_from}
-use Rattle.npp_rows.specs.Relax.{follow_rows}
+use Rattle.npp_rows.specs.Named.{numbered}
 use Rattle.npp_rows.specs.Rows.{IsChoice}
-use Rattle.npp_rows.specs.Inverse.{inverse, choice_entry, choice_right, payers, revenue_goal}
+use Rattle.npp_rows.specs.Inverse.{inverse, payers, revenue_goal}
 use Rattle.npp_rows.specs.Response.{path_toll, path_price, taken_path, taken_toll, demand, revenue_below}
 use Rattle.npp_rows.proofs.GoalLaws.{products_by_name}
 use Rattle.npp_rows.proofs.InverseLaws.{swapped, total_times, paid_if}

@@ -1,6 +1,6 @@
 -- The first path of each commodity has the least cost of all, so zero tolls are a point of the program of the choice of zeros.
-use Rattle.std.specs.Prelude.{◌≡◌, ℕ, ◌<◌, ◌≤◌, pos, ◌-ℤ◌, ◌≤ℤ◌, List, length, map, flat_map, slice_index_or, Some, All, Result, Ok, Err, IfOk}
-use Rattle.std.proofs.Common.{arith, sym, ap, ◌∙◌, refl}
+use Rattle.std.specs.Prelude.{◌≡◌, ℕ, ◌<◌, ◌≤◌, pos, ◌-ℤ◌, List, length, map, flat_map, slice_index_or, Some, All, Result, Ok, Err, IfOk}
+use Rattle.std.proofs.Common.{arith, ◌∙◌}
 use Rattle.std.proofs.lemmas.Int.{ints}
 use Rattle.std.proofs.lemmas.List.{length-map}
 use Rattle.std.proofs.lemmas.List.Elements.{All-append, All-map}
@@ -20,7 +20,7 @@ use Rattle.npp_rows.specs.declared.names.ColumnName.{ColumnName}
 use Rattle.npp_rows.specs.declared.names.ColumnName.TheVariants.{Toll}
 use Rattle.npp_rows.specs.PathModel.{PathModel, no_cover, cover_at, tolls, commodities, paths, path_count, path_cost, cap_at}
 use Rattle.npp_rows.specs.Parts.{chosen}
-use Rattle.npp_rows.specs.Named.{numbered, vector, value_over, terms_from}
+use Rattle.npp_rows.specs.Named.{numbered, vector, terms_from}
 use Rattle.npp_rows.specs.Relax.{follow_rows}
 use Rattle.npp_rows.specs.Rows.{IsChoice}
 use Rattle.npp_rows.specs.Inverse.{inverse, choice_rows, choice_entry, choice_right}

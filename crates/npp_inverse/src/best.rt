@@ -1,12 +1,13 @@
 //! The best tolls under which chosen paths are cheapest.
 
-ghost use Rattle.std.specs.Prelude.{◌≡◌, ◌≤◌, length, map, IfOk};
+ghost use Rattle.std.specs.Prelude.{◌≡◌, ◌≤◌, length, map, IfOk, OnOk};
 ghost use Rattle.npp_frac.specs.Fits.{limit_of};
 ghost use Rattle.npp_net.specs.Network.{Network};
 ghost use Rattle.npp_rows.specs.Caps.{path_model};
 ghost use Rattle.npp_rows.specs.Limits.{path_total};
 ghost use Rattle.npp_rows.specs.Lowering.{AreClosedCovers};
 ghost use Rattle.npp_rows.specs.Promises.{IsModelOf};
+ghost use Rattle.npp_rows.specs.Inverse.{inverse};
 ghost use Rattle.npp_rows.specs.Rows.{IsChoice};
 ghost use Rattle.npp_inverse.specs.Offers.{HasUsefulPaths};
 ghost use Rattle.npp_inverse.specs.Work.{inverse_work};
@@ -15,11 +16,11 @@ ghost use Rattle.npp_inverse.specs.Best.{best_ending, IsProvedBest, IsZeroChoice
 use crate::quiet::{Work, work_on_in};
 use crate::refusal::RespondRefusal;
 use crate::reply::reply_to;
+use crate::workspace::Workspace;
 use npp_cover::Cover;
 use npp_frac::Exact;
 use npp_net::{Instance, Memory, Tolls};
 use npp_rows::{Mark, PathTable, Response};
-use npp_simplex::Workspace;
 use std::alloc::Global;
 
 /// What the inverse program of a choice gives at a width.
@@ -50,7 +51,8 @@ pub enum Best<N> {
 /// They are the point of the run of the inverse program. The program is quiet at the width of `N` where its run and the
 /// sums of the check of its multipliers fit and, where it has a point, the reply to its tolls does too. Else it is `Loud`
 /// with the mark of the first of these that fails; it is never `Loud(Large)`. The choice of path 0 of each commodity always
-/// has tolls, since zero tolls will do. The program and its run take their memory from the workspace and leave it there.
+/// has tolls, since zero tolls will do. The program and its run take their memory from the workspace and leave it there, with
+/// the names of the rows.
 pub fn best_tolls_in<N: Exact>(
     alloc: Global,
     workspace: &mut Workspace<N>,
@@ -62,11 +64,11 @@ pub fn best_tolls_in<N: Exact>(
     ensures work { IfOk result (λ b. best_ending N.rational b ≡ inverse_work (limit_of N.WIDTH) table.now choice.now) }
     ensures proved { IfOk result (λ b. IsProvedBest N.rational table.now choice.now b) }
     ensures zero_choice { (net : Network) → IsModelOf net table.now → IsZeroChoice choice.now → IfOk result LeavesTolls }
+    ensures rows { OnOk result (workspace.new.programs ≡ (inverse table.now choice.now).rows) }
 {
-    let lists = workspace.program_lists(alloc);
-    let program = table.inverse_in(lists, alloc, choice)?;
+    let program = table.inverse(alloc, &mut workspace.programs, choice)?;
     let work = work_on_in(alloc, workspace, &program)?;
-    workspace.keep_program(program);
+    workspace.programs.keep(program);
     match work {
         Work::Solved { x, y, value } => match reply_to(alloc, table, &x) {
             Ok(response) => Ok(Best::Found {

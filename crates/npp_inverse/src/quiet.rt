@@ -11,11 +11,12 @@ ghost use Rattle.npp_simplex.specs.Meaning.{outcome_of};
 ghost use Rattle.npp_inverse.specs.Work.{step_as, sums_fit, judged, program_work, IsProvedEnding};
 ghost use Rattle.npp_inverse.specs.Tolls.{ending_of};
 
+use crate::workspace::Workspace;
 use npp_frac::Exact;
 use npp_lp::{Program, check_dual, check_farkas};
 use npp_net::Memory;
 use npp_rows::{Mark, Step};
-use npp_simplex::{Answer, Workspace, solve_in};
+use npp_simplex::{Answer, solve_in};
 use std::alloc::Global;
 
 /// How many pivots a run may have.
@@ -117,8 +118,9 @@ pub fn work_on_in<N: Exact>(
     requires bounded { (d : List Rational) → IsRay (linear_program N.rational program.now) d → ⊥ }
     ensures ending { IfOk result (λ w. ending_of N.rational w ≡ program_work (limit_of N.WIDTH) (linear_program N.rational program.now)) }
     ensures proved { IfOk result (λ w. IsProvedEnding (linear_program N.rational program.now) (ending_of N.rational w)) }
+    ensures rows { workspace.new.programs ≡ workspace.old.programs }
 {
-    match solve_in(alloc, workspace, program, PIVOTS) {
+    match solve_in(alloc, &mut workspace.runs, program, PIVOTS) {
         Ok(answer) => Ok(judge(program, answer)),
         Err(_) => Err(Memory),
     }

@@ -1,13 +1,10 @@
 -- What is found, by the ending of the work.
-use Rattle.std.proofs.Common.{◌≡◌, inl, inr, ℕ, true, false, cond, List, Some, None, sym, ap, ◌∙◌}
-use Rattle.std.specs.Prelude.{◌⊎◌}
+use Rattle.std.proofs.Common.{◌≡◌, ℕ, true, false, cond, List, Some, None, sym, ap, ◌∙◌}
 use Rattle.npp_frac.specs.Rational.{Rational}
 use Rattle.npp_lp.specs.Programs.{LinearProgram}
 use Rattle.npp_rows.specs.declared.mark.Mark.TheVariants as mark
 use Rattle.npp_rows.specs.declared.names.RowName.{RowName}
 use Rattle.npp_rows.specs.declared.names.Multiplier.{Multiplier}
-use Rattle.npp_rows.specs.declared.refusal.RelaxRefusal.{RelaxRefusal}
-use Rattle.npp_rows.specs.declared.refusal.RelaxRefusal.TheVariants as refusal
 use Rattle.npp_rows.specs.PathModel.{PathModel}
 use Rattle.npp_rows.specs.Named.{numbered}
 use Rattle.npp_rows.specs.Cuts.{Cut}
@@ -27,10 +24,9 @@ use Rattle.npp_leaf.specs.Work.{family_work}
 
 module _ (limit : ℕ) (m : PathModel) (parts : Family) (cuts : List Cut) where
   -- a relaxation that is too large
-  pub large_found : (r : RelaxRefusal) → r ≡ refusal.Large → (r ≡ refusal.Memory) ⊎ (is_large (relaxation m parts cuts) ≡ true) → marked mark.Large ≡ family_work limit m parts cuts
+  pub large_found : is_large (relaxation m parts cuts) ≡ true → marked mark.Large ≡ family_work limit m parts cuts
   unfolding relaxation_work
-  large_found r e (inl wrong) = cc
-  large_found r e (inr large) = ap (λ b. relaxation_found m parts (relaxation m parts cuts).rows (cond b (AtMark mark.Large) (program_work limit (numbered (relaxation m parts cuts))))) (sym large)
+  large_found large = ap (λ b. relaxation_found m parts (relaxation m parts cuts).rows (cond b (AtMark mark.Large) (program_work limit (numbered (relaxation m parts cuts))))) (sym large)
 
   -- and another one
   pub run_found : (p : LinearProgram) (e : Ending) → is_large (relaxation m parts cuts) ≡ false → p ≡ numbered (relaxation m parts cuts) → e ≡ program_work limit p

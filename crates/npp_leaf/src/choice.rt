@@ -9,13 +9,12 @@ ghost use Rattle.npp_inverse.specs.Best.{best_ending, IsProvedBest};
 ghost use Rattle.npp_leaf.specs.Found.{found_value, choice_found};
 ghost use Rattle.npp_leaf.specs.Work.{choice_work};
 
-use crate::family::choice_rows;
 use crate::positive::positive_multipliers;
 use crate::work::LeafWork;
 use npp_frac::Exact;
 use npp_inverse::{Best, Workspace, best_tolls_in};
 use npp_net::{Listed, Memory};
-use npp_rows::PathTable;
+use npp_rows::{PathTable, RowName};
 use npp_tree::{Bound, Evidence};
 use std::alloc::Global;
 
@@ -31,20 +30,21 @@ pub(crate) fn choice_work<N: Exact>(
     ensures { IfOk result (λ w. found_value N.rational w ≡ choice_work (limit_of N.WIDTH) table.now choice.now) }
 {
     let best = best_tolls_in(alloc, workspace, table, choice)?;
-    found_by(alloc, table, choice, best)
+    found_by(alloc, table, choice, workspace.programs.rows(), best)
 }
 
-/// What is found where the best tolls of the choice are these.
+/// What is found where the best tolls of the choice are these. The rows are those of its program.
 fn found_by<N: Exact>(
     alloc: Global,
     table: &PathTable,
     choice: &[u32],
+    rows: &[RowName],
     best: Best<N>,
 ) -> Result<LeafWork<N>, Memory>
-    requires { IsProvedBest N.rational table.now choice.now best }
+    requires rows { rows.now ≡ (inverse table.now choice.now).rows }
+    requires proved { IsProvedBest N.rational table.now choice.now best }
     ensures { IfOk result (λ w. found_value N.rational w ≡ choice_found table.now (inverse table.now choice.now).rows (best_ending N.rational best)) }
 {
-    let rows = choice_rows(alloc, table)?;
     match best {
         Best::Found {
             tolls,
@@ -52,7 +52,7 @@ fn found_by<N: Exact>(
             y,
             response,
         } => {
-            let multipliers = positive_multipliers(alloc, &rows, &y)?;
+            let multipliers = positive_multipliers(alloc, rows, &y)?;
             Ok(LeafWork {
                 evidence: Evidence::Inverse(Listed::of(multipliers)),
                 value: Some(Bound::At(value.widen())),
@@ -61,7 +61,7 @@ fn found_by<N: Exact>(
             })
         }
         Best::NoTolls { y } => {
-            let multipliers = positive_multipliers(alloc, &rows, &y)?;
+            let multipliers = positive_multipliers(alloc, rows, &y)?;
             Ok(LeafWork::without_point(Evidence::NoInverse(Listed::of(multipliers))))
         }
         Best::Loud(mark) => Ok(LeafWork::marked(mark)),

@@ -2,7 +2,6 @@
 #![tactic(auto)]
 
 mod choice;
-mod family;
 mod node;
 mod point;
 mod positive;

@@ -17,7 +17,7 @@ use crate::work::LeafWork;
 use npp_frac::Exact;
 use npp_inverse::{Work, Workspace, work_on_in};
 use npp_net::{Listed, Memory};
-use npp_rows::{CutRow, Mark, RelaxRefusal, RelaxationIndex};
+use npp_rows::{CutRow, Mark, RelaxationIndex, RowName};
 use npp_tree::{Bound, Evidence};
 use std::alloc::Global;
 
@@ -33,33 +33,31 @@ pub(crate) fn family_work<N: Exact>(
     ensures { IfOk result (λ w. found_value N.rational w
         ≡ family_work (limit_of N.WIDTH) index.now.paths index.now.parts (map (cut_value N.rational) cuts.now)) }
 {
-    let lists = workspace.program_lists(alloc);
-    let program = match index.program_in_unless_large(lists, alloc, cuts) {
-        Ok(program) => program,
-        Err(RelaxRefusal::Large) => return Ok(LeafWork::marked(Mark::Large)),
-        Err(RelaxRefusal::Memory) => return Err(Memory),
-    };
+    if index.is_large(cuts) {
+        return Ok(LeafWork::marked(Mark::Large));
+    }
+    let program = index.program(alloc, &mut workspace.programs, cuts)?;
     let work = work_on_in(alloc, workspace, &program)?;
-    workspace.keep_program(program);
-    found_by(alloc, index, cuts, work)
+    workspace.programs.keep(program);
+    found_by(alloc, index, cuts, workspace.programs.rows(), work)
 }
 
-/// What is found where the work on the relaxation ends so.
+/// What is found where the work on the relaxation with some cuts ends so. The rows are those of the relaxation.
 fn found_by<N: Exact>(
     alloc: Global,
     index: &RelaxationIndex,
     cuts: &[CutRow<N>],
+    rows: &[RowName],
     work: Work<N>,
 ) -> Result<LeafWork<N>, Memory>
-    requires few { length cuts.now ≤ 16777216 }
+    requires rows { rows.now ≡ (relaxation index.now.paths index.now.parts (map (cut_value N.rational) cuts.now)).rows }
     requires proved { IsProvedEnding (numbered (relaxation index.now.paths index.now.parts (map (cut_value N.rational) cuts.now))) (ending_of N.rational work) }
     ensures { IfOk result (λ w. found_value N.rational w
         ≡ relaxation_found index.now.paths index.now.parts (relaxation index.now.paths index.now.parts (map (cut_value N.rational) cuts.now)).rows (ending_of N.rational work)) }
 {
-    let rows = index.rows(alloc, cuts.len() as u32)?;
     match work {
         Work::Solved { x, y, value } => {
-            let multipliers = positive_multipliers(alloc, &rows, &y)?;
+            let multipliers = positive_multipliers(alloc, rows, &y)?;
             let point = point_of(alloc, index, &x)?;
             Ok(LeafWork {
                 evidence: Evidence::Dual(Listed::of(multipliers)),
@@ -69,7 +67,7 @@ fn found_by<N: Exact>(
             })
         }
         Work::NoPoint { y } => {
-            let multipliers = positive_multipliers(alloc, &rows, &y)?;
+            let multipliers = positive_multipliers(alloc, rows, &y)?;
             Ok(LeafWork::without_point(Evidence::Farkas(Listed::of(multipliers))))
         }
         Work::Loud(mark) => Ok(LeafWork::marked(mark)),

@@ -1,8 +1,7 @@
 -- The fold over the paths is the cap: the greatest gap of a path with the toll, or the ceiling where that is less.
-use Rattle.std.specs.Prelude.{◌≡◌, ◌⊎◌, ℕ, suc, ◌+◌, ◌-◌, ◌<◌, ◌≤◌, max, List, [], ◌∷◌, ◌++◌, length, map, flat_map, fold, slice_index_or, Bool, true, false, cond, ◌==◌, Contains, Result, Ok, Err, IfOk, refl}
+use Rattle.std.specs.Prelude.{◌≡◌, ◌⊎◌, ℕ, suc, ◌+◌, ◌-◌, ◌≤◌, max, List, [], ◌∷◌, map, flat_map, fold, slice_index_or, true, false, ◌==◌, Contains, Result, Ok, Err, IfOk, refl}
 use Rattle.std.specs.Int.{bit_at}
-use Rattle.std.specs.List.{range_with_len}
-use Rattle.std.proofs.Common.{arith, sym, ap, ◌∙◌, inl, inr, eqb-true, eq-eqb}
+use Rattle.std.proofs.Common.{arith, sym, ◌∙◌, inl, inr, eqb-true, eq-eqb}
 use Rattle.std.proofs.lemmas.Bool.{cases_lt, cases_Bool}
 use Rattle.std.proofs.lemmas.List.{get_or_default}
 use Rattle.std.proofs.lemmas.List.FromFn.{get_or-map-range_with_len}
@@ -10,7 +9,7 @@ use Rattle.npp_net.specs.Network.{Network, toll_count}
 use Rattle.npp_net.specs.TollSets.{Has}
 use Rattle.npp_cover.specs.Paths.{PathValue}
 use Rattle.npp_cover.specs.Replaces.{CoverValue, path_at, no_path}
-use Rattle.npp_cover.specs.Caps.{IsGap, IsGreatestGap, IsCap}
+use Rattle.npp_cover.specs.Caps.{IsGap, IsGreatestGap}
 use Rattle.npp_rows.specs.Caps.{toll_gap, greatest_gap, toll_cap, toll_caps, AreCaps}
 use Rattle.npp_rows.proofs.LoweredSums.{gap_from, fold_more}
 

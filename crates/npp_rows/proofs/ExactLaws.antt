@@ -1,6 +1,6 @@
 -- The points of the inverse program of a choice are exactly the tolls up to the caps under which its paths are cheapest over
 -- all walks, and its goal there is what they earn.
-use Rattle.std.specs.Prelude.{◌≡◌, ℕ, ◌+◌, ◌*◌, ◌<◌, ◌≤◌, pos, List, [], length, map, slice_index, Option, Some, None}
+use Rattle.std.specs.Prelude.{◌≡◌, ℕ, ◌+◌, ◌<◌, ◌≤◌, pos, List, [], length, map, slice_index, Option, Some, None}
 use Rattle.std.specs.List.{range_with_len}
 use Rattle.std.proofs.Common.{arith, sym, ap, ◌∙◌, subst}
 use Rattle.std.proofs.Math.Nat.{mul-le-mul_right}
@@ -10,7 +10,7 @@ use Rattle.npp_net.specs.Network.{Network, toll_count, ceiling_of}
 use Rattle.npp_net.specs.Toll.{TollVector, KeepsCeilings}
 use Rattle.npp_net.specs.Outcome.{AreCheapest}
 use Rattle.npp_cover.specs.Caps.{within_ceiling}
-use Rattle.npp_lp.specs.Programs.{at, goal_at, IsPoint}
+use Rattle.npp_lp.specs.Programs.{goal_at, IsPoint}
 use Rattle.npp_rows.specs.declared.names.ColumnName.TheVariants.{Toll}
 use Rattle.npp_rows.specs.PathModel.{PathModel, tolls, paths, path_count, useful_path, cap_at}
 use Rattle.npp_rows.specs.Caps.{toll_cap, greatest_gap}

@@ -29,6 +29,7 @@ pub mod ValueLaws
 pub mod RowLaws
 pub mod OutcomeLaws
 pub mod RelaxationLaws
+pub mod RelaxedGoals
 pub mod LoweredSums
 pub mod LoweringLaws
 pub mod GoalLaws

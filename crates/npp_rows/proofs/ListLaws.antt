@@ -99,6 +99,11 @@ pieces_next g n old now next e h =
 pub then_more : {X : Type 0} (a b b' now next : List X) → now ≡ a → next ≡ now ++ b → b ≡ b' → next ≡ a ++ b'
 then_more a b b' now next e h f = h ∙ ap₂ ◌++◌ e f
 
+-- a list so far, and what a last call adds
+pub then_last : {T E X : Type 0} (r : Result T E) (a b now next : List X) → now ≡ a → OnOk r (next ≡ now ++ b) → OnOk r (next ≡ a ++ b)
+then_last (Ok x) a b now next e h = h ∙ ap (λ t. t ++ b) e
+then_last (Err x) a b now next e h = tt
+
 pub map_twice : {X Y Z : Type 0} (f : Y → Z) (g : X → Y) (xs : List X) → map (λ x. f (g x)) xs ≡ map f (map g xs)
 map_twice f g [] = refl
 map_twice f g (x ∷ xs) = ap (λ t. f (g x) ∷ t) (map_twice f g xs)

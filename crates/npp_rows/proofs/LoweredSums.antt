@@ -1,11 +1,10 @@
 -- The greatest gap of a toll, and sums over tolls that are lowered to it or kept.
-use Rattle.std.specs.Prelude.{◌≡◌, ◌⊎◌, ℕ, zero, suc, ◌+◌, ◌-◌, ◌*◌, ◌<◌, ◌≤◌, max, List, [], ◌∷◌, ◌++◌, length, map, flat_map, fold, slice_index_or, refl}
+use Rattle.std.specs.Prelude.{◌≡◌, ◌⊎◌, ℕ, zero, suc, ◌+◌, ◌*◌, ◌<◌, ◌≤◌, max, List, [], ◌∷◌, ◌++◌, length, map, flat_map, fold, slice_index_or, refl}
 use Rattle.std.specs.Int.{bit_at}
 use Rattle.std.proofs.Common.{arith, sym, ap, ap₂, inl, inr, eq-or-lt_of_le, le_of_suc-le-suc}
 use Rattle.std.proofs.lemmas.Nat.Bits.{bit_at-zero, bit_at-lt}
 use Rattle.npp_cover.specs.Paths.{PathValue}
 use Rattle.npp_cover.specs.Replaces.{CoverValue, sum_below, path_at, no_path}
-use Rattle.npp_rows.specs.PathModel.{paths}
 use Rattle.npp_rows.specs.Caps.{toll_gap}
 
 -- ---- the greatest gap

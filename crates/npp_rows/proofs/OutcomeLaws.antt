@@ -5,9 +5,7 @@ use Rattle.std.specs.Int.{bit_at}
 use Rattle.std.specs.List.{range_with_len, AllZip}
 use Rattle.std.proofs.Common.{arith, sym, ap, ◌∙◌, eqb-true, inl, inr, eq-or-lt_of_le, le_of_suc-le-suc}
 use Rattle.std.proofs.Math.Nat.{mul-le-mul_right}
-use Rattle.std.proofs.Math.Seq.{get_or-append_seam}
 use Rattle.std.proofs.lemmas.Nat.Bits.{bit_at-zero, bit_at-lt}
-use Rattle.std.proofs.lemmas.List.{length-append}
 use Rattle.std.proofs.lemmas.List.FromFn.{length-map-range_with_len}
 use Rattle.npp_frac.specs.Rational.{Rational, zero_ℚ, whole, ◌+ℚ◌, ◌≤ℚ◌, Is, Is-le, Is-ratio, Is-whole, Is-add, Is-negative, Is-equal}
 use Rattle.npp_frac.specs.Ring.{+ℚ-zero, zero-+ℚ, +ℚ_assoc}
@@ -18,8 +16,7 @@ use Rattle.npp_net.specs.declared.types.Commodity.{Commodity}
 use Rattle.npp_net.specs.Network.{Network, no_commodity, toll_count}
 use Rattle.npp_net.specs.Toll.{TollVector, IsCheapest}
 use Rattle.npp_net.specs.Outcome.{AreCheapest}
-use Rattle.npp_cover.specs.Paths.{PathValue}
-use Rattle.npp_cover.specs.Replaces.{IsPath, sum_below, set_toll, path_at, no_path}
+use Rattle.npp_cover.specs.Replaces.{IsPath, sum_below, set_toll, no_path}
 use Rattle.npp_cover.proofs.CoverLaws.{some_path, last_path, at_most_free}
 use Rattle.npp_rows.specs.PathModel.{PathModel, no_cover, cover_at, path_count, useful_path, path_cost, path_gap, uses}
 use Rattle.npp_rows.specs.Parts.{part_at, chosen, IsAllowed}

@@ -7,17 +7,14 @@ use Rattle.std.proofs.lemmas.List.FromFn.{length-range_with_len}
 use Rattle.npp_cover.specs.Replaces.{sum_below}
 use Rattle.npp_rows.specs.declared.names.RowName.{RowName}
 use Rattle.npp_rows.specs.declared.names.RowName.TheVariants.{Cap, Follow, Below, Use, Link, One, OneLow, Cut}
-use Rattle.npp_rows.specs.declared.names.ColumnName.{ColumnName}
 use Rattle.npp_rows.specs.declared.names.ColumnName.TheVariants.{Toll, Share, Paid}
 use Rattle.npp_rows.specs.PathModel.{PathModel, tolls, commodities, paths, path_count}
-use Rattle.npp_rows.specs.Limits.{IsWithinLimits}
-use Rattle.npp_rows.specs.Parts.{IsAllowed, part_at}
+use Rattle.npp_rows.specs.Parts.{part_at}
 use Rattle.npp_rows.specs.Relax.{relaxation_columns, relaxation_rows, shares, on_allowed_tolls, allowed_tolls, cap_rows, follow_rows}
 use Rattle.npp_rows.specs.Family.{share_count, paid_count}
-use Rattle.npp_rows.specs.Rows.{IsRow, IsChoiceRow, IsColumn, IsPaidOn}
+use Rattle.npp_rows.specs.Rows.{IsRow, IsChoiceRow, IsPaidOn}
 use Rattle.npp_rows.proofs.StartLaws.{sum_below_same}
 use Rattle.npp_rows.proofs.TermLaws.{flat_size}
-use Rattle.npp_rows.proofs.FamilyLaws.{shares_within, paid_within}
 use Rattle.npp_frac.specs.Rational.{Rational}
 use Rattle.npp_lp.specs.declared.program.Entry.{Entry}
 use Rattle.npp_lp.specs.Programs.{Term, Row, LinearProgram, AreTerms}
@@ -34,10 +31,6 @@ module _ (m : PathModel) (parts : List (List ℕ)) where
       let share_size = flat_size (λ l. map (Share l) (part_at parts l)) (length m.covers) ∙ sum_below_same (λ l. length (map (Share l) (part_at parts l))) (share_count parts) (length m.covers) (λ l w. rw length-map refl) in
       let paid_size = flat_size (λ l. map (λ a. Paid a l) (allowed_tolls m parts l)) (length m.covers) ∙ sum_below_same (λ l. length (map (λ a. Paid a l) (allowed_tolls m parts l))) (paid_count m parts) (length m.covers) (λ l w. rw length-map refl) in
       omega (arith, toll_size, share_size, paid_size, length-append (map Toll (tolls m) ++ shares m parts) (on_allowed_tolls m parts Paid), length-append (map Toll (tolls m)) (shares m parts))
-
-  pub few_columns : IsWithinLimits m → IsAllowed m parts → length (relaxation_columns m parts) ≤ 16790144
-  few_columns limits allowed =
-      omega (arith, columns_size, limits.tolls, shares_within m parts limits allowed (length m.covers) (omega arith), paid_within m parts limits allowed (length m.covers) (omega arith))
 
   -- what holds of each toll and commodity that have a column
   pub pairs_all : {Y : Type 0} (P : Y → Type 0) (name : ℕ → ℕ → Y) → ((a k : ℕ) → IsPaidOn m parts a k → P (name a k)) → All P (on_allowed_tolls m parts name)
@@ -61,15 +54,6 @@ module _ (m : PathModel) (parts : List (List ℕ)) where
       let lows : All R (map OneLow (commodities m)) = All-map R OneLow (commodities m) (all_range (λ k. R (OneLow k)) (length m.covers) (λ k u. u)) in
       let cut_rows : All R (map Cut (range_with_len 0 n)) = All-map R Cut (range_with_len 0 n) (all_range (λ i. R (Cut i)) n (λ i l. l)) in
       All-append R _ _ (All-append R _ _ (All-append R _ _ (All-append R _ _ (All-append R _ _ (All-append R _ _ (All-append R _ _ caps follows) belows) use_rows) links) ones) lows) cut_rows
-
-  pub all_columns : All (IsColumn m) (relaxation_columns m parts)
-  all_columns =
-      let C : ColumnName → Type 0 = IsColumn m in
-      let toll_columns : All C (map Toll (tolls m)) = All-map C Toll (tolls m) (all_range (λ a. C (Toll a)) (length m.caps) (λ a l. tt)) in
-      let share_columns : All C (shares m parts) =
-      all_flat C (λ k. map (Share k) (part_at parts k)) (commodities m) (all_range (λ k. All C (map (Share k) (part_at parts k))) (length m.covers) (λ k u.
-      All-map C (Share k) (part_at parts k) (λ j d l. u))) in
-      All-append C _ _ (All-append C _ _ toll_columns share_columns) (pairs_all C Paid (λ a k h. h.commodity))
 
 -- ---- row by row
 

@@ -1,6 +1,6 @@
 -- The rows and columns of the programs rise by name, and where each of them stands.
-use Rattle.std.proofs.Common.{◌≡◌, ℕ, zero, suc, ◌+◌, ◌*◌, ◌<◌, ◌≤◌, Bool, true, false, cond, List, [], ◌∷◌, ◌++◌, length, map, get_or, Option, Some, None, All, refl, sym, ap, subst, ◌∙◌, arith, inl, inr, eq-or-lt_of_le, le_of_suc-le-suc}
-use Rattle.std.specs.Prelude.{◌==◌, Contains, MatchOption}
+use Rattle.std.proofs.Common.{◌≡◌, ℕ, zero, suc, ◌+◌, ◌<◌, true, false, cond, List, [], ◌∷◌, ◌++◌, length, map, get_or, Option, Some, None, All, refl, sym, ap, subst, ◌∙◌, arith, inl, inr, eq-or-lt_of_le, le_of_suc-le-suc}
+use Rattle.std.specs.Prelude.{◌==◌, MatchOption}
 use Rattle.std.specs.List.{AllPairs, range_with_len, flat_map}
 use Rattle.std.proofs.lemmas.Bool.{cases_lt}
 use Rattle.std.proofs.lemmas.List.{get_or-map, length-map, length-append, get_or_append_left, get_or-append-add, get_or_past, append-nil}
@@ -19,7 +19,7 @@ use Rattle.npp_rows.specs.RowOrder.{row_key, is_same_row, has_row, DoRise}
 use Rattle.npp_rows.specs.Places.{column_key, is_same_column, row_place, column_place, StandsAt, IsPlaceIn}
 use Rattle.npp_rows.specs.Relax.{relaxation_columns, relaxation_rows, shares, on_allowed_tolls, allowed_tolls, cap_rows, follow_rows}
 use Rattle.npp_rows.specs.Inverse.{inverse, choice_rows, chosen_rows}
-use Rattle.npp_rows.specs.Rows.{IsRow, IsChoiceRow, IsChoiceColumn, HasColumn, IsPaidOn, pairs_from, shares_from, paid_from}
+use Rattle.npp_rows.specs.Rows.{IsRow, IsChoiceRow, IsChoiceColumn, HasColumn, pairs_from, shares_from, paid_from}
 use Rattle.npp_rows.proofs.ValueLaws.{range_rises}
 use Rattle.npp_rows.proofs.RelaxationLaws.{all_range, all_flat}
 use Rattle.npp_rows.proofs.ListLaws.{range_push}

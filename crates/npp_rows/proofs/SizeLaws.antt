@@ -1,13 +1,13 @@
 -- How many rows a relaxation has.
-use Rattle.std.proofs.Common.{◌≡◌, ℕ, ◌+◌, ◌*◌, List, ◌++◌, length, map, refl, ◌∙◌, arith}
-use Rattle.std.specs.List.{range_with_len, flat_map}
+use Rattle.std.proofs.Common.{◌≡◌, ℕ, ◌+◌, ◌*◌, List, length, map, ◌∙◌, arith}
+use Rattle.std.specs.List.{flat_map}
 use Rattle.std.proofs.lemmas.List.{length-append, length-map}
-use Rattle.std.proofs.lemmas.List.FromFn.{length-range_with_len, length-map-range_with_len}
+use Rattle.std.proofs.lemmas.List.FromFn.{length-map-range_with_len}
 use Rattle.npp_cover.specs.Replaces.{sum_below}
 use Rattle.npp_rows.specs.declared.names.RowName.{RowName}
 use Rattle.npp_rows.specs.declared.names.RowName.TheVariants.{Cap, Follow, Below, Use, Link, One, OneLow, Cut}
-use Rattle.npp_rows.specs.PathModel.{PathModel, tolls, commodities, paths, path_count}
-use Rattle.npp_rows.specs.Relax.{relaxation_rows, allowed_tolls, on_allowed_tolls, cap_rows, follow_rows}
+use Rattle.npp_rows.specs.PathModel.{PathModel, commodities, path_count}
+use Rattle.npp_rows.specs.Relax.{relaxation_rows, allowed_tolls, on_allowed_tolls, follow_rows}
 use Rattle.npp_rows.specs.Family.{paid_count}
 use Rattle.npp_rows.proofs.StartLaws.{sum_below_same}
 use Rattle.npp_rows.proofs.TermLaws.{flat_size}

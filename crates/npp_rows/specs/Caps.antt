@@ -1,5 +1,5 @@
 -- The caps of the tolls: what no toll needs to exceed.
-use Rattle.std.specs.Prelude.{ℕ, ◌-◌, ◌<◌, slice_index, min, max, List, map, fold, flat_map, Option, Some, None, ◌==◌, if◌then◌else◌}
+use Rattle.std.specs.Prelude.{ℕ, ◌-◌, ◌<◌, slice_index, max, List, map, fold, flat_map, ◌==◌, if◌then◌else◌}
 use Rattle.std.specs.Int.{bit_at}
 use Rattle.std.specs.List.{range_with_len}
 use Rattle.npp_net.specs.Network.{Network, toll_count, ceiling_of}

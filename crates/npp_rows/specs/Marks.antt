@@ -1,7 +1,6 @@
 -- What a pair's cuts say, path by path.
 use Rattle.std.specs.Prelude.{ℕ, List, length, filter, slice_index_or, Bool, false}
 use Rattle.std.specs.List.{list_any, range_with_len}
-use Rattle.npp_rows.specs.PathModel.{PathModel}
 use Rattle.npp_rows.specs.Cuts.{Cut, cut_at, conflict_cut, is_same_cut}
 
 -- whether some of these cuts is exactly the conflict of path p of commodity k with path q of commodity l

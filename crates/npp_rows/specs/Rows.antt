@@ -44,12 +44,6 @@ IsShareWritten m parts t old new =
     × (new ≡ old ++ record { column = shares_from m parts t.commodity + i; value = t.value } ∷ []))
     ⊎ ((Contains (part_at parts t.commodity) t.path → ⊥) × (new ≡ old))
 
--- a column of a commodity that there is
-abbrev pub IsColumn : PathModel → ColumnName → Type 0
-IsColumn m (Toll a) = Unit {0}
-IsColumn m (Share k p) = k < length m.covers
-IsColumn m (Paid a k) = k < length m.covers
-
 -- the relaxation has this column
 abbrev pub HasColumn : PathModel → List (List ℕ) → ColumnName → Type 0
 HasColumn m parts (Toll a) = a < length m.caps

@@ -4,6 +4,7 @@ ghost use Rattle.std.specs.Prelude.{◌≡◌, ◌<◌, ◌≤◌, ◌^◌, ◌+
 ghost use Rattle.std.specs.List.{range_with_len};
 ghost use Rattle.std.specs.Int.{bit_at};
 ghost use Rattle.npp_frac.specs.Rational.{◌-ℚ◌};
+ghost use Rattle.npp_lp.specs.Building.{started};
 ghost use Rattle.npp_lp.specs.Meaning.{linear_program, terms_of};
 ghost use Rattle.npp_cover.specs.PathValue.{path_value};
 ghost use Rattle.npp_cover.specs.Replaces.{path_at};
@@ -20,14 +21,14 @@ ghost use Rattle.npp_rows.specs.Inverse.{inverse, choice_rows, choice_entry, cho
 
 use crate::entries::push_number;
 use crate::names::RowName;
+use crate::program_room::ProgramRoom;
 use crate::row::{toll_set, whole_number};
 use crate::row_feed::feed;
-use crate::row_names::{Single, push_follows, push_singles};
 use crate::table::PathTable;
 use crate::undercut::{push_undercut, undercut_right};
 use npp_cover::{Cover, UsefulPath};
 use npp_frac::Exact;
-use npp_lp::{Entry, Program, ProgramBuilder, ProgramLists};
+use npp_lp::{Entry, Program, ProgramBuilder};
 use npp_net::{Instance, Memory, TollId, TollSet};
 use std::alloc::Global;
 
@@ -51,56 +52,47 @@ pub fn inverse<N: Exact>(
     ensures holds { (parts : List (List ℕ)) → first_choice parts ≡ choice.now → InverseHolds instance.now (path_model instance.now covers.now) parts }
 {
     let table = PathTable::new(alloc, instance, covers)?;
-    table.inverse(alloc, choice)
+    let mut room = ProgramRoom::new(alloc);
+    table.inverse(alloc, &mut room, choice)
 }
 
 impl PathTable<'_> {
-    /// The inverse program of a choice.
-    pub fn inverse<N: Exact>(&self, alloc: Global, choice: &[u32]) -> Result<Program<N>, Memory>
-        requires { IsChoice self.now choice.now }
-        ensures { IfOk result (λ p. linear_program N.rational p ≡ numbered (inverse self.now choice.now)) }
-    {
-        self.inverse_in(ProgramLists::empty(alloc), alloc, choice)
-    }
-
-    /// The same, in the memory of an earlier program.
-    pub fn inverse_in<N: Exact>(
+    /// The inverse program of a choice, made in a room.
+    pub fn inverse<N: Exact>(
         &self,
-        lists: ProgramLists<N>,
         alloc: Global,
+        room: &mut ProgramRoom<N>,
         choice: &[u32],
     ) -> Result<Program<N>, Memory>
         requires { IsChoice self.now choice.now }
-        ensures { IfOk result (λ p. linear_program N.rational p ≡ numbered (inverse self.now choice.now)) }
+        ensures program { IfOk result (λ p. linear_program N.rational p ≡ numbered (inverse self.now choice.now)) }
+        ensures rows { OnOk result (room.new ≡ (inverse self.now choice.now).rows) }
     {
-        let mut rows = Vec::new(alloc);
-        push_singles(&mut rows, Single::Caps, self.tolls())?;
-        push_follows(&mut rows, self)?;
-        build(lists, alloc, self, choice, &rows)
+        self.list_rows(&mut room.rows)?;
+        let builder = room.builder(alloc, self.tolls())?;
+        let ProgramRoom { rows, entries, .. } = room;
+        build(alloc, builder, self, choice, rows, entries)
     }
 }
 
 /// The program of the rows of a choice.
 fn build<N: Exact>(
-    lists: ProgramLists<N>,
     alloc: Global,
+    mut program: ProgramBuilder<N>,
     table: &PathTable,
     choice: &[u32],
     rows: &[RowName],
+    entries: &mut Vec<Entry<N>>,
 ) -> Result<Program<N>, Memory>
+    requires started { program ≡ started (length (tolls table.now)) }
     requires choice { IsChoice table.now choice.now }
     requires rows { rows.now ≡ choice_rows table.now (λ k. Some (chosen choice.now k)) }
     ensures { IfOk result (λ p. linear_program N.rational p ≡ numbered (inverse table.now choice.now)) }
 {
-    let mut program = match ProgramBuilder::over(lists, table.tolls()) {
-        Ok(program) => program,
-        Err(_) => return Err(Memory),
-    };
     let list = program.goal_list(alloc);
-    let mut entries = Vec::new(alloc);
     for row in rows {
-        write_choice_row(table, choice, *row, &mut entries)?;
-        feed(&mut program, &entries, choice_right(table, choice, *row))?;
+        write_choice_row(table, choice, *row, entries)?;
+        feed(&mut program, entries, choice_right(table, choice, *row))?;
     }
     let goal = choice_goal(list, table, choice)?;
     Ok(program.finish(goal))

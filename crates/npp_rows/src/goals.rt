@@ -18,8 +18,7 @@ impl RelaxationIndex<'_> {
     pub fn goal<N: Exact>(&self, alloc: Global) -> Result<Vec<N>, Memory>
         ensures { IfOk result (λ v. map N.rational v.items ≡ map (paid_goal self.now.paths) (relaxation_columns self.now.paths self.now.parts)) }
     {
-        let columns = self.columns(alloc)?;
-        goal_of(Vec::new(alloc), self.table(), &columns)
+        goal_of(Vec::new(alloc), self)
     }
 }
 

@@ -1,6 +1,8 @@
 //! The relaxation over an allowed family.
 
-ghost use Rattle.std.specs.Prelude.{◌≡◌, ◌≤◌, ◌⊎◌, [], true, false, length, map, All, IfOk, MatchResult};
+ghost use Rattle.std.specs.Prelude.{◌≡◌, ◌<◌, ◌≤◌, ◌^◌, ◌++◌, ◌⊎◌, pos, [], true, false, length, map, replicate, All, IfOk, OnOk, MatchResult};
+ghost use Rattle.npp_frac.specs.Rational.{whole};
+ghost use Rattle.npp_lp.specs.Building.{started};
 ghost use Rattle.npp_lp.specs.Meaning.{linear_program};
 ghost use Rattle.npp_rows.specs.declared.refusal.RelaxRefusal.{RelaxRefusal};
 ghost use Rattle.npp_rows.specs.Caps.{path_model};
@@ -11,21 +13,20 @@ ghost use Rattle.npp_rows.specs.Promises.{RelaxationHolds};
 ghost use Rattle.npp_rows.specs.Named.{numbered};
 ghost use Rattle.npp_rows.specs.Cuts.{IsCut};
 ghost use Rattle.npp_rows.specs.Meaning.{cut_value};
-ghost use Rattle.npp_rows.specs.Rows.{IsColumn};
 ghost use Rattle.npp_rows.specs.Relax.{relaxation, relaxation_rows, relaxation_columns, paid_goal, is_large};
 
 use crate::allowed::Allowed;
 use crate::cut::CutRow;
 use crate::index::RelaxationIndex;
-use crate::names::{ColumnName, RowName};
+use crate::names::RowName;
+use crate::program_room::ProgramRoom;
 use crate::refusal::RelaxRefusal;
 use crate::row::whole_number;
 use crate::row_feed::feed;
-use crate::size::is_large;
 use crate::table::PathTable;
 use npp_cover::Cover;
 use npp_frac::Exact;
-use npp_lp::{Program, ProgramBuilder, ProgramLists};
+use npp_lp::{Entry, Program, ProgramBuilder};
 use npp_net::{Instance, Memory};
 use std::alloc::Global;
 
@@ -56,7 +57,11 @@ pub fn relaxation<N: Exact>(
 {
     let table = PathTable::new(alloc, instance, covers)?;
     let index = RelaxationIndex::new(alloc, &table, allowed)?;
-    index.program_unless_large(alloc, cuts)
+    if index.is_large(cuts) {
+        return Err(RelaxRefusal::Large);
+    }
+    let mut room = ProgramRoom::new(alloc);
+    Ok(index.program(alloc, &mut room, cuts)?)
 }
 
 /// The relaxation over an allowed family with some cuts, whatever its size. Where each cut is met by every outcome, each
@@ -80,124 +85,75 @@ pub fn relaxation_any_size<N: Exact>(
 {
     let table = PathTable::new(alloc, instance, covers)?;
     let index = RelaxationIndex::new(alloc, &table, allowed)?;
-    index.program(alloc, cuts)
+    let mut room = ProgramRoom::new(alloc);
+    index.program(alloc, &mut room, cuts)
 }
 
 impl RelaxationIndex<'_> {
-    /// The relaxation with some cuts, whatever its size.
-    pub fn program<N: Exact>(&self, alloc: Global, cuts: &[CutRow<N>]) -> Result<Program<N>, Memory>
-        requires cuts { All (λ c. IsCut self.now.paths (cut_value N.rational c)) cuts.now }
-        requires few { length cuts.now ≤ 16777216 }
-        ensures { IfOk result (λ p. linear_program N.rational p ≡ numbered (relaxation self.now.paths self.now.parts (map (cut_value N.rational) cuts.now))) }
-    {
-        self.program_in(ProgramLists::empty(alloc), alloc, cuts)
-    }
-
-    /// The same, in the memory of an earlier program.
-    pub fn program_in<N: Exact>(
+    /// The relaxation with some cuts, whatever its size, made in a room.
+    pub fn program<N: Exact>(
         &self,
-        lists: ProgramLists<N>,
         alloc: Global,
+        room: &mut ProgramRoom<N>,
         cuts: &[CutRow<N>],
     ) -> Result<Program<N>, Memory>
         requires cuts { All (λ c. IsCut self.now.paths (cut_value N.rational c)) cuts.now }
         requires few { length cuts.now ≤ 16777216 }
-        ensures { IfOk result (λ p. linear_program N.rational p ≡ numbered (relaxation self.now.paths self.now.parts (map (cut_value N.rational) cuts.now))) }
-    {
-        let columns = self.columns(alloc)?;
-        let rows = self.rows(alloc, cuts.len() as u32)?;
-        build(lists, alloc, self, cuts, &rows, &columns)
-    }
-
-    /// The relaxation with some cuts, or `Large` exactly where its rows times its columns are over 1,000,000.
-    pub fn program_unless_large<N: Exact>(
-        &self,
-        alloc: Global,
-        cuts: &[CutRow<N>],
-    ) -> Result<Program<N>, RelaxRefusal>
-        requires cuts { All (λ c. IsCut self.now.paths (cut_value N.rational c)) cuts.now }
-        requires few { length cuts.now ≤ 16777216 }
         ensures program { IfOk result (λ p. linear_program N.rational p ≡ numbered (relaxation self.now.paths self.now.parts (map (cut_value N.rational) cuts.now))) }
-        ensures large { MatchResult result
-            (λ p. is_large (relaxation self.now.paths self.now.parts (map (cut_value N.rational) cuts.now)) ≡ false)
-            (λ e. (e ≡ RelaxRefusal.Memory) ⊎ (is_large (relaxation self.now.paths self.now.parts (map (cut_value N.rational) cuts.now)) ≡ true)) }
+        ensures rows { OnOk result (room.new ≡ relaxation_rows self.now.paths self.now.parts (length cuts.now)) }
     {
-        self.program_in_unless_large(ProgramLists::empty(alloc), alloc, cuts)
-    }
-
-    /// The same, in the memory of an earlier program.
-    pub fn program_in_unless_large<N: Exact>(
-        &self,
-        lists: ProgramLists<N>,
-        alloc: Global,
-        cuts: &[CutRow<N>],
-    ) -> Result<Program<N>, RelaxRefusal>
-        requires cuts { All (λ c. IsCut self.now.paths (cut_value N.rational c)) cuts.now }
-        requires few { length cuts.now ≤ 16777216 }
-        ensures program { IfOk result (λ p. linear_program N.rational p ≡ numbered (relaxation self.now.paths self.now.parts (map (cut_value N.rational) cuts.now))) }
-        ensures large { MatchResult result
-            (λ p. is_large (relaxation self.now.paths self.now.parts (map (cut_value N.rational) cuts.now)) ≡ false)
-            (λ e. (e ≡ RelaxRefusal.Memory) ⊎ (is_large (relaxation self.now.paths self.now.parts (map (cut_value N.rational) cuts.now)) ≡ true)) }
-    {
-        if is_large(self, cuts.len() as u32) {
-            return Err(RelaxRefusal::Large);
-        }
-        Ok(self.program_in(lists, alloc, cuts)?)
+        self.list_rows(&mut room.rows, cuts.len() as u32)?;
+        let columns = self.first_paid(self.table().commodities());
+        let builder = room.builder(alloc, columns)?;
+        let ProgramRoom { rows, entries, .. } = room;
+        build(alloc, builder, self, cuts, rows, entries)
     }
 }
 
-/// The program of the rows and columns of a relaxation.
+/// The program of the rows of a relaxation.
 fn build<N: Exact>(
-    lists: ProgramLists<N>,
     alloc: Global,
+    mut program: ProgramBuilder<N>,
     index: &RelaxationIndex,
     cuts: &[CutRow<N>],
     rows: &[RowName],
-    columns: &[ColumnName],
+    entries: &mut Vec<Entry<N>>,
 ) -> Result<Program<N>, Memory>
+    requires started { program ≡ started (length (relaxation_columns index.now.paths index.now.parts)) }
     requires cuts { All (λ c. IsCut index.now.paths (cut_value N.rational c)) cuts.now }
     requires rows { rows.now ≡ relaxation_rows index.now.paths index.now.parts (length cuts.now) }
-    requires columns { columns.now ≡ relaxation_columns index.now.paths index.now.parts }
     ensures { IfOk result (λ p. linear_program N.rational p ≡ numbered (relaxation index.now.paths index.now.parts (map (cut_value N.rational) cuts.now))) }
 {
-    let table = index.table();
-    let mut program = match ProgramBuilder::over(lists, columns.len() as u32) {
-        Ok(program) => program,
-        Err(_) => return Err(Memory),
-    };
     let list = program.goal_list(alloc);
-    let mut entries = Vec::new(alloc);
     for row in rows {
-        index.write_row(cuts, *row, &mut entries)?;
-        feed(&mut program, &entries, index.right_side(cuts, *row))?;
+        index.write_row(cuts, *row, entries)?;
+        feed(&mut program, entries, index.right_side(cuts, *row))?;
     }
-    let goal = goal_of(list, table, columns)?;
+    let goal = goal_of(list, index)?;
     Ok(program.finish(goal))
 }
 
-/// The goal of columns, in a list that is empty.
-pub(crate) fn goal_of<N: Exact>(
-    mut goal: Vec<N>,
-    table: &PathTable,
-    columns: &[ColumnName],
-) -> Result<Vec<N>, Memory>
+/// The goal of a relaxation, in a list that is empty: 0 at tolls and shares, and the demand of the commodity at what it pays.
+pub(crate) fn goal_of<N: Exact>(mut goal: Vec<N>, index: &RelaxationIndex) -> Result<Vec<N>, Memory>
     requires empty { goal.items ≡ [] }
-    requires columns { All (IsColumn table.now) columns.now }
-    ensures { IfOk result (λ v. map N.rational v.items ≡ map (paid_goal table.now) columns.now) }
+    ensures { IfOk result (λ v. map N.rational v.items ≡ map (paid_goal index.now.paths) (relaxation_columns index.now.paths index.now.parts)) }
 {
-    for column in columns {
-        goal.push(goal_at(table, *column))?;
+    push_often(&mut goal, 0, index.first_paid(0))?;
+    for k in 0..index.table().commodities() {
+        let demand = index.table().demand(k);
+        push_often(&mut goal, demand, index.used(k).len() as u32)?;
     }
     Ok(goal)
 }
 
-/// The goal of a column: the demand of the commodity where it pays, and else 0.
-fn goal_at<N: Exact>(table: &PathTable, column: ColumnName) -> N
-    requires { IsColumn table.now column }
-    ensures { N.rational result ≡ paid_goal table.now column }
+/// Adds a whole number so many times.
+fn push_often<N: Exact>(numbers: &mut Vec<N>, number: u32, count: u32) -> Result<(), Memory>
+    requires { number < 2 ^ 31 }
+    ensures { OnOk result (map N.rational numbers.new.items
+        ≡ map N.rational numbers.old.items ++ replicate count (whole (pos number))) }
 {
-    match column {
-        ColumnName::Toll(_) | ColumnName::Share(_, _) => N::of_whole(0),
-        ColumnName::Paid(_, k) => whole_number(table.demand(k)),
+    for _i in 0..count {
+        numbers.push(whole_number(number))?;
     }
+    Ok(())
 }

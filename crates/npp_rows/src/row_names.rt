@@ -1,21 +1,20 @@
 //! The rows of a relaxation in order, by their names.
 
-ghost use Rattle.std.specs.Prelude.{◌≡◌, ◌<◌, ◌≤◌, ◌^◌, ◌++◌, length, map, flat_map, IfOk, OnOk};
+ghost use Rattle.std.specs.Prelude.{◌≡◌, ◌<◌, ◌≤◌, ◌^◌, ◌++◌, length, map, flat_map, OnOk};
 ghost use Rattle.std.specs.List.{range_with_len};
 ghost use Rattle.npp_rows.specs.declared.names.RowName.TheVariants.{Follow as follow_row};
 ghost use Rattle.npp_rows.specs.PathModel.{commodities};
-ghost use Rattle.npp_rows.specs.Relax.{relaxation_rows, follow_rows, on_allowed_tolls};
+ghost use Rattle.npp_rows.specs.Relax.{relaxation_rows, cap_rows, follow_rows, on_allowed_tolls};
 ghost use Rattle.npp_rows.specs.KindNames.{single_name, pair_name};
 
 use crate::index::RelaxationIndex;
 use crate::names::RowName;
 use crate::table::PathTable;
 use npp_net::Memory;
-use std::alloc::Global;
 
 /// The kinds of rows that have one number.
 #[derive(Clone, Copy)]
-pub(crate) enum Single {
+enum Single {
     Caps,
     Ones,
     OneLows,
@@ -55,27 +54,36 @@ impl Pair {
     }
 }
 
+impl PathTable<'_> {
+    /// Writes the names of the rows of the inverse program of a choice, in order, in place of what the list held. Each choice has
+    /// the same.
+    pub(crate) fn list_rows(&self, rows: &mut Vec<RowName>) -> Result<(), Memory>
+        ensures { OnOk result (rows.new.items ≡ cap_rows self.now ++ flat_map (follow_rows self.now) (commodities self.now)) }
+    {
+        rows.clear();
+        push_singles(rows, Single::Caps, self.tolls())?;
+        push_follows(rows, self)
+    }
+}
+
 impl RelaxationIndex<'_> {
-    /// The names of the rows of the relaxation with so many cuts, in order.
-    pub fn rows(&self, alloc: Global, cuts: u32) -> Result<Vec<RowName>, Memory>
-        ensures { IfOk result (λ v. v.items ≡ relaxation_rows self.now.paths self.now.parts cuts) }
+    /// Writes the names of the rows of the relaxation with so many cuts, in order, in place of what the list held.
+    pub(crate) fn list_rows(&self, rows: &mut Vec<RowName>, cuts: u32) -> Result<(), Memory>
+        ensures { OnOk result (rows.new.items ≡ relaxation_rows self.now.paths self.now.parts cuts) }
     {
         let table = self.table();
-        let mut rows = Vec::new(alloc);
-        push_singles(&mut rows, Single::Caps, table.tolls())?;
-        push_follows(&mut rows, table)?;
-        push_pairs(&mut rows, self, Pair::Belows)?;
-        push_pairs(&mut rows, self, Pair::Uses)?;
-        push_pairs(&mut rows, self, Pair::Links)?;
-        push_singles(&mut rows, Single::Ones, table.commodities())?;
-        push_singles(&mut rows, Single::OneLows, table.commodities())?;
-        push_singles(&mut rows, Single::Cuts, cuts)?;
-        Ok(rows)
+        table.list_rows(rows)?;
+        push_pairs(rows, self, Pair::Belows)?;
+        push_pairs(rows, self, Pair::Uses)?;
+        push_pairs(rows, self, Pair::Links)?;
+        push_singles(rows, Single::Ones, table.commodities())?;
+        push_singles(rows, Single::OneLows, table.commodities())?;
+        push_singles(rows, Single::Cuts, cuts)
     }
 }
 
 /// Adds rows of a kind, numbered from 0.
-pub(crate) fn push_singles(rows: &mut Vec<RowName>, kind: Single, count: u32) -> Result<(), Memory>
+fn push_singles(rows: &mut Vec<RowName>, kind: Single, count: u32) -> Result<(), Memory>
     ensures { OnOk result (rows.new.items ≡ rows.old.items ++ map (single_name kind) (range_with_len 0 count)) }
 {
     for i in 0..count {
@@ -85,7 +93,7 @@ pub(crate) fn push_singles(rows: &mut Vec<RowName>, kind: Single, count: u32) ->
 }
 
 /// Adds the rows of the useful paths of all commodities.
-pub(crate) fn push_follows(rows: &mut Vec<RowName>, table: &PathTable) -> Result<(), Memory>
+fn push_follows(rows: &mut Vec<RowName>, table: &PathTable) -> Result<(), Memory>
     ensures { OnOk result (rows.new.items ≡ rows.old.items ++ flat_map (follow_rows table.now) (commodities table.now)) }
 {
     for k in 0..table.commodities() {

@@ -6,13 +6,12 @@ use crate::line::Line;
 use crate::room::Room;
 use crate::tableau::Tableau;
 use npp_frac::{Exact, Memory};
-use npp_lp::{Program, ProgramLists};
 use std::alloc::Global;
 use std::marker::Model;
 use std::mem;
 
-/// Memory for programs and runs of the simplex. What they take goes to the next ones that are given the same workspace, so that
-/// programs of about the same size and their runs take memory once. Contracts see nothing of it: no answer depends on it.
+/// Memory for runs of the simplex. What one takes goes to the next one that is given the same workspace, so that runs of about the
+/// same size take memory once. Contracts see nothing of it: no answer depends on it.
 #[derive(Drop)]
 pub struct Workspace<N: Exact> {
     /// The rows of the last tableau.
@@ -23,8 +22,6 @@ pub struct Workspace<N: Exact> {
     basis: Vec<u32>,
     /// Its room for the lists of a pivot.
     room: Room<N>,
-    /// The memory of the last program.
-    program: ProgramLists<N>,
 }
 
 impl<N: Exact> Model for Workspace<N> {
@@ -43,18 +40,7 @@ impl<N: Exact> Workspace<N> {
             spare: Vec::new(alloc),
             basis: Vec::new(alloc),
             room: Room::empty(alloc),
-            program: ProgramLists::empty(alloc),
         }
-    }
-
-    /// The memory of the program that was done with last, for the next one.
-    pub fn program_lists(&mut self, alloc: Global) -> ProgramLists<N> {
-        mem::replace(&mut self.program, ProgramLists::empty(alloc))
-    }
-
-    /// Keeps the memory of a program that is done with.
-    pub fn keep_program(&mut self, program: Program<N>) {
-        self.program = program.into_lists();
     }
 
     /// An empty list of rows. Those of the last tableau are spare from here on.

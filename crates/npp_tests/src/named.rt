@@ -11,7 +11,8 @@ use npp_fixtures::{
 };
 use npp_frac::{Exact, Frac32, Frac64, Frac128, print_fraction};
 use npp_rows::{
-    ColumnName, CutRow, Multiplier, MultiplierFault, NamedSums, PathTable, RelaxationIndex, RowName,
+    ColumnName, CutRow, Multiplier, MultiplierFault, NamedSums, PathTable, ProgramRoom,
+    RelaxationIndex, RowName,
 };
 use std::alloc::Global;
 use std::process::Abort;
@@ -59,9 +60,15 @@ fn the_places_of_names(rt: HostRuntime) -> Result<(), Fail> {
     let allowed = all_allowed(alloc, &net, covers)?;
     let table = PathTable::new(alloc, &net, covers)?;
     let index = RelaxationIndex::new(alloc, &table, &allowed)?;
-    let rows = index.rows(alloc, 2)?;
-    assert_eq!(rt; rows.len(), 24);
-    expect_places(&rt, &index, &rows, 2)?;
+    let mut room = ProgramRoom::new(alloc);
+    let program = index.program::<Frac32>(alloc, &mut room, &[])?;
+    assert_eq!(rt; [program.row_count(), room.rows().len()], [22, 22]);
+    expect_places(&rt, &index, room.rows(), 2)?;
+    let cuts = [
+        index.row_place(2, RowName::Cut(0)),
+        index.row_place(2, RowName::Cut(1)),
+    ];
+    assert_eq!(rt; cuts, [Some(22), Some(23)]);
     for row in NO_ROWS {
         assert_eq!(rt; index.row_place(2, *row), None, "{row:?}");
     }

@@ -8,8 +8,8 @@ use npp_frac::{Exact, Frac32, Frac64, Frac128, parse_fraction, print_fraction};
 use npp_lp::{Entry, Program, check_dual};
 use npp_net::Listed;
 use npp_rows::{
-    CutRow, PathTable, RelaxRefusal, RelaxationIndex, RowName, basic_of, inverse, relaxation,
-    relaxation_any_size,
+    CutRow, PathTable, ProgramRoom, RelaxRefusal, RelaxationIndex, RowName, basic_of, inverse,
+    relaxation, relaxation_any_size,
 };
 use std::alloc::Global;
 use std::test::Fail;
@@ -304,9 +304,9 @@ fn six_multipliers_are_a_dual_answer(rt: HostRuntime) -> Result<(), Fail> {
     let allowed = all_allowed(alloc, &net, covers)?;
     let table = PathTable::new(alloc, &net, covers)?;
     let index = RelaxationIndex::new(alloc, &table, &allowed)?;
-    let program = index.program::<Frac128>(alloc, &[])?;
-    let rows = index.rows(alloc, 0)?;
-    let y = multipliers(alloc, &rows)?;
+    let mut room = ProgramRoom::new(alloc);
+    let program = index.program::<Frac128>(alloc, &mut room, &[])?;
+    let y = multipliers(alloc, room.rows())?;
     assert_eq!(rt; y.len(), program.row_count());
     let value = check_dual(&program, &y).ok().ok_or("no dual answer")?;
     assert_eq!(rt; print_fraction(alloc, value)?.as_str(), "78/5");

@@ -1,6 +1,5 @@
 use Rattle.std.proofs.Common.{◌≡◌, List, length, map, All, sym, ap, subst, ◌∙◌, arith}
 use Rattle.std.proofs.lemmas.List.{length-map, get_or_default}
-use Rattle.std.proofs.lemmas.List.FromFn.{length-range_with_len}
 use Rattle.npp_lp.specs.Meaning.{terms_of, linear_program}
 use Rattle.npp_lp.specs.Building.{Started, started}
 use Rattle.npp_rows.specs.declared.names.RowName.{RowName}
@@ -13,8 +12,8 @@ use Rattle.npp_rows.proofs.choice.build.Goals as goal
 
 pub loop-row-init : goal.loop-row-init
 loop-row-init g c =
-    let size : length (map Toll (tolls c.args.table.now)) ≡ length c.args.table.now.caps = rw length-map (length-range_with_len 0 (length c.args.table.now.caps)) in
-    let is = c.goal_list-list.ensures.same ∙ c.in-Ok.ensures ∙ ap (λ n. let s : Started g.row.N.Denot = started n in s) (c.tolls.ensures.count ∙ sym size) in
+    let size : length (map Toll (tolls c.args.table.now)) ≡ length (tolls c.args.table.now) = simp length-map in
+    let is = c.goal_list-list.ensures.same ∙ c.requires.started ∙ ap (λ n. let s : Started g.row.N.Denot = started n in s) (sym size) in
     rw is (no_rows g.N.Exact.rational (inverse c.args.table.now c.args.choice.now) c.args.rows.now)
 
 pub write_choice_row-requires-clause-row : goal.write_choice_row-requires-clause-row

@@ -1,4 +1,4 @@
-use Rattle.std.proofs.Common.{sym, ap, ◌∙◌}
+use Rattle.std.proofs.Common.{sym, ◌∙◌}
 use Rattle.std.proofs.lemmas.List.Folds.{list_all-map}
 use Rattle.npp_frac.specs.Rational.{zero_ℚ, is_less}
 use Rattle.npp_rows.specs.declared.names.Multiplier.{Multiplier}

@@ -2,16 +2,15 @@ use Rattle.std.proofs.Common.{◌≡◌, List, length, map, All, sym, ap, subst,
 use Rattle.std.proofs.lemmas.List.{length-map, get_or_default}
 use Rattle.npp_lp.specs.Meaning.{terms_of, linear_program}
 use Rattle.npp_rows.specs.declared.names.RowName.{RowName}
-use Rattle.npp_rows.specs.declared.names.ColumnName.{ColumnName}
 use Rattle.npp_rows.specs.Meaning.{cut_value}
-use Rattle.npp_rows.specs.Relax.{relaxation, relaxation_rows}
-use Rattle.npp_rows.specs.Rows.{IsRow, IsColumn}
-use Rattle.npp_rows.proofs.ProgramLaws.{few_columns, all_rows, all_columns, one_row, row_form, finished}
+use Rattle.npp_rows.specs.Relax.{relaxation, relaxation_rows, relaxation_columns}
+use Rattle.npp_rows.specs.Rows.{IsRow}
+use Rattle.npp_rows.proofs.ProgramLaws.{no_rows, all_rows, one_row, row_form, finished}
 use Rattle.npp_rows.proofs.relaxed.build.Goals as goal
 
-pub overflow_cast-columns : goal.overflow_cast-columns
-overflow_cast-columns g c =
-    omega (arith, ap length c.requires.columns, few_columns c.args.index.now.paths c.args.index.now.parts c.table-table.ensures.limits c.table-table.ensures.allowed)
+pub loop-row-init : goal.loop-row-init
+loop-row-init g c =
+    rw (c.goal_list-list.ensures.same, c.requires.started) (no_rows g.N.Exact.rational (relaxation c.args.index.now.paths c.args.index.now.parts (map (cut_value g.N.Exact.rational) c.args.cuts.now)) c.args.rows.now)
 
 pub write_row-requires-clause-row : goal.write_row-requires-clause-row
 write_row-requires-clause-row g c =
@@ -33,17 +32,14 @@ loop-row-preserved g c =
     (get_or_default c.args.rows.now c.loop-row.row-index _ _ c.loop-row-test.true) c.loop-row.invariant
     (ap (terms_of g.N.Exact.rational) c.deref.ensures.value ∙ c.in_ok-write_row.ensures) c.right_side.ensures)
 
-pub goal_of-requires-clause-columns : goal.goal_of-requires-clause-columns
-goal_of-requires-clause-columns g c = rw c.table-table.ensures.same (subst (λ (cs : List ColumnName). All (IsColumn c.args.index.now.paths) cs) (sym c.requires.columns) (all_columns c.args.index.now.paths c.args.index.now.parts))
-
 pub finish-requires-clause-goal : goal.finish-requires-clause-goal
 finish-requires-clause-goal g c =
-    let size : length c.in_ok-goal.goal.items ≡ length c.args.columns.now = simp length-map at (ap length c.in_ok-goal.ensures) in
-    omega (arith, size, ap length c.requires.columns, c.loop-row.invariant.columns)
+    let size : length c.in_ok-goal.goal.items ≡ length (relaxation_columns c.args.index.now.paths c.args.index.now.parts) = simp length-map at (ap length c.in_ok-goal.ensures) in
+    omega (arith, size, c.loop-row.invariant.columns)
 
 pub returns : goal.returns
 returns g c =
     let size : length (map (cut_value g.N.Exact.rational) c.args.cuts.now) ≡ length c.args.cuts.now = simp length-map in
     ap (linear_program g.N.Exact.rational) c.finish.ensures
     ∙ finished g.N.Exact.rational (relaxation c.args.index.now.paths c.args.index.now.parts (map (cut_value g.N.Exact.rational) c.args.cuts.now)) c.args.rows.now c.loop-row.row-index c.loop-row.program c.in_ok-goal.goal.items c.loop-row.invariant c.loop-row-test.false
-    (c.requires.rows ∙ ap (relaxation_rows c.args.index.now.paths c.args.index.now.parts) (sym size)) (rw (c.table-table.ensures.same, c.requires.columns) at c.in_ok-goal.ensures)
+    (c.requires.rows ∙ ap (relaxation_rows c.args.index.now.paths c.args.index.now.parts) (sym size)) c.in_ok-goal.ensures

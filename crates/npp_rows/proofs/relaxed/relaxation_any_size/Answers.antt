@@ -18,7 +18,7 @@ program-requires-clause-cuts g c =
 pub returns-clause-program : goal.returns-clause-program
 returns-clause-program g c =
     let e = c.in_ok-index.ensures ∙ ap (λ (m : PathModel). let f : Family = record { paths = m; parts = c.args.allowed.now.parts } in f) c.in_ok-table.ensures.paths in
-    subst (λ (f : Family). IfOk c.program.result (λ p. linear_program g.N.Exact.rational p ≡ numbered (relaxation f.paths f.parts (map (cut_value g.N.Exact.rational) c.args.cuts.now)))) e c.program.ensures
+    subst (λ (f : Family). IfOk c.program.result (λ p. linear_program g.N.Exact.rational p ≡ numbered (relaxation f.paths f.parts (map (cut_value g.N.Exact.rational) c.args.cuts.now)))) e c.program.ensures.program
 
 pub returns-clause-holds : goal.returns-clause-holds
 returns-clause-holds g c = relaxation_holds c.args.instance.now (path_model c.args.instance.now c.args.covers.now) c.args.allowed.now.parts (map (cut_value g.N.Exact.rational) c.args.cuts.now)

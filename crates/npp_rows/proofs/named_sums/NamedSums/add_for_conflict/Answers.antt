@@ -1,10 +1,9 @@
-use Rattle.std.proofs.Common.{◌≡◌, Some, length, map, sym, ap, subst, ◌∙◌, refl}
+use Rattle.std.proofs.Common.{◌≡◌, Some, length, sym, ap, subst, ◌∙◌, refl}
 use Rattle.std.proofs.lemmas.List.{length-map}
 use Rattle.npp_frac.specs.Fits.{limit_of}
 use Rattle.npp_lp.specs.Meaning.{terms_of}
 use Rattle.npp_rows.specs.Named.{NamedProgram}
-use Rattle.npp_rows.specs.Places.{row_place}
-use Rattle.npp_rows.specs.Meaning.{cut_value, multiplier_value}
+use Rattle.npp_rows.specs.Meaning.{multiplier_value}
 use Rattle.std.proofs.lemmas.List.FromFn.{length-range_with_len}
 use Rattle.npp_rows.specs.declared.names.ColumnName.TheVariants.{Toll}
 use Rattle.npp_rows.specs.PathModel.{tolls}

@@ -3,7 +3,7 @@ use Rattle.std.specs.List.{range_with_len}
 use Rattle.std.proofs.lemmas.List.{length-map}
 use Rattle.std.proofs.lemmas.List.FromFn.{map-range_with_len_more}
 use Rattle.npp_cover.specs.PathValue.{path_value}
-use Rattle.npp_rows.specs.PathModel.{paths, commodities}
+use Rattle.npp_rows.specs.PathModel.{paths}
 use Rattle.npp_rows.proofs.table.PathTable.all_paths.Goals as goal
 
 pub loop-k-preserved : goal.loop-k-preserved
